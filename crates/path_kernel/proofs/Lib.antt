@@ -1,0 +1,4 @@
+pub mod Checksums
+pub mod Fires
+pub mod Runs
+pub mod Calm
