@@ -1,0 +1,37 @@
+-- The scenario of what was read is that of the whole input.
+use Rattle.std.proofs.Common.{◌≡◌, ℕ, ◌+◌, ◌≤◌, ◌<◌, Bool, true, false, nat_lt, List, [], ◌++◌, length, length-append, Option, Some, None, refl, ap, sym, ◌∙◌, append-nil, subst, arith, inl, inr, Result, IfSome}
+use Rattle.std.proofs.lemmas.Bool.Decides.{nat_tests, leb_tells}
+use Rattle.std.proofs.lemmas.Bool.{le-leb}
+use Rattle.path_scenario.specs.declared.scenario.Scenario.{Scenario}
+use Rattle.path_form.specs.declared.refusal.Refusal.{Refusal}
+use Rattle.path_form.specs.Form.{scenario_of, scenario_limit, read_document, document_of}
+use Rattle.sim_run.specs.Input.{HasRead, HasReadAll, IsAtEnd}
+
+too_long : (input bytes : List ℕ) → scenario_limit < length input → scenario_limit < length bytes → scenario_of input ≡ scenario_of bytes
+unfolding scenario_of
+too_long input bytes a b = rw (le-leb (scenario_limit + 1) (length input) (omega arith), le-leb (scenario_limit + 1) (length bytes) (omega arith))
+
+pub scenario_of-read : (input bytes : List ℕ) (now : Option (List ℕ)) → HasReadAll scenario_limit (Some input) bytes now → scenario_of input ≡ scenario_of bytes
+scenario_of-read input bytes now read =
+    let (rest, whole, left) = read.read in
+    elim (leb_tells (length bytes) scenario_limit) [
+      | inl short ↦
+          let ended : rest ≡ [] = rw left at (read.end short.1) in
+          ap scenario_of (whole ∙ ap (λ xs. bytes ++ xs) ended ∙ append-nil bytes)
+      | inr long ↦
+          let more : scenario_limit < length input = omega (arith, long.1, ap length whole, length-append bytes rest) in
+          too_long input bytes more long.1
+    ]
+
+-- a short input was read to its end
+pub ends-read : (input bytes : List ℕ) (now : Option (List ℕ)) → HasReadAll scenario_limit (Some input) bytes now → length bytes ≤ scenario_limit → now ≡ Some []
+ends-read input bytes now read short =
+    let (rest, whole, left) = read.read in
+    let ended : rest ≡ [] = rw left at (read.end short) in
+    left ∙ ap Some ended
+
+-- what holds of the scenario of the bytes that were read holds of that of the input, where it is told
+pub on_input : (left : Option (List ℕ)) (bytes : List ℕ) (now : Option (List ℕ)) (P : Result Scenario Refusal → Type 0)
+    → HasReadAll scenario_limit left bytes now → P (scenario_of bytes) → IfSome left (λ input. P (scenario_of input))
+on_input None bytes now P read holds = tt
+on_input (Some input) bytes now P read holds = subst P (sym (scenario_of-read input bytes now read)) holds

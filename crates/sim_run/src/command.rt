@@ -1,0 +1,59 @@
+//! The command line: its first word is the command.
+
+ghost use Rattle.std.specs.Prelude.{◌≡◌, map, string_bytes};
+ghost use Rattle.sim_run.specs.Command.{command_of, refuse, setting_fault};
+
+/// What the program is to do.
+#[derive(Clone, Copy, Debug, PartialEq, Eq)]
+pub enum Command {
+    Run,
+}
+
+/// What is wrong with a word.
+#[derive(Clone, Copy, Debug, PartialEq, Eq)]
+pub enum WordCode {
+    NoCommand,
+    UnknownCommand,
+    NoValue,
+    UnknownKey,
+}
+
+/// The first word that is refused, counted from 1.
+#[derive(Clone, Copy, Debug, PartialEq, Eq)]
+pub struct WordFault {
+    pub place: u32,
+    pub code: WordCode,
+}
+
+/// Reads the command line.
+#[tactic(auto, unfolding(crate::specs::Command::command_of))]
+pub fn read_command(words: &[String]) -> Result<Command, WordFault>
+    ensures { result ≡ command_of (map string_bytes words.now) }
+{
+    let Some((command, settings)) = words.split_first() else {
+        return refuse(1, WordCode::NoCommand);
+    };
+    if command.as_str() != "run" {
+        return refuse(1, WordCode::UnknownCommand);
+    }
+    match settings.first() {
+        None => Ok(Command::Run),
+        Some(word) => refuse(2, setting_fault(word)),
+    }
+}
+
+fn refuse(place: u32, code: WordCode) -> Result<Command, WordFault>
+    ensures { result ≡ refuse place code }
+{
+    Err(WordFault { place, code })
+}
+
+fn setting_fault(word: &String) -> WordCode
+    ensures { result ≡ setting_fault (string_bytes word.now) }
+{
+    if word.as_bytes().contains(&b'=') {
+        WordCode::UnknownKey
+    } else {
+        WordCode::NoValue
+    }
+}

@@ -1,0 +1,16 @@
+//! A run of the program: from the words and bytes that come in to the files and text that go out.
+#![tactic(auto)]
+
+mod command;
+mod files;
+mod input;
+mod output;
+mod program;
+mod simulate;
+mod status;
+mod summary;
+
+pub use command::{Command, WordCode, WordFault, read_command};
+pub use path_form::Refusal;
+pub use program::run_program;
+pub use status::Status;

@@ -1,0 +1,114 @@
+//! The top call: the words, the source, the scenario, the run, in this order. The first that refuses
+//! decides the answer.
+
+ghost use Rattle.std.specs.Prelude.{◌≡◌, ◌≢◌, length, ◌≤◌, ◌⊎◌, ℕ, List, ◌++◌, Some, [], map, string_bytes, codes, IfErr, IfSome};
+ghost use Rattle.outside.specs.Causes.{Rose};
+ghost use Rattle.path_form.specs.Form.{scenario_of, scenario_limit};
+ghost use Rattle.sim_run.specs.Output.{HasFiles, HasFilePrefixes, HasGot, HasGotPrefix};
+ghost use Rattle.sim_run.specs.Command.{command_of};
+ghost use Rattle.sim_run.specs.Plain.{plain, run_of, IsAnswer, BeforeFiles};
+
+use crate::command::{Command, read_command};
+use crate::input::{InputStop, read_all};
+use crate::simulate::{RunStop, simulate};
+use crate::status::Status;
+use outside::{Sink, Source, TraceStore};
+use path_form::{ReadStop, SCENARIO_LIMIT, read_scenario};
+use std::alloc::Global;
+
+/// Runs the program that the words name, over a source, a store and a sink.
+pub fn run_program<S: Source, F: TraceStore, O: Sink>(
+    alloc: Global,
+    words: &[String],
+    source: &mut S,
+    store: &mut F,
+    out: &mut O,
+) -> Status
+    requires words { length words.now ≤ 1000 }
+    requires names { (rest : List ℕ) → F.takes store.old (codes "trace" ++ rest) }
+
+    // The answer is the plain program's, unless the outside or memory failed. A fault of the words comes first.
+    ensures answer { IfSome (S.left source.old) (λ input. IsAnswer (plain (map string_bytes words.now) input).status result) }
+    ensures words { IfErr (command_of (map string_bytes words.now)) (λ fault. (result ≡ Status.Words fault) × (source.new ≡ source.old)) }
+
+    // With that answer, the files and the text are the plain program's, and what was read was the whole input.
+    ensures files { IfSome (S.left source.old) (λ input. let p = plain (map string_bytes words.now) input in result ≡ p.status → HasFiles (F.files store.old) (F.files store.new) p.files) }
+    ensures text { IfSome (S.left source.old) (λ input. let p = plain (map string_bytes words.now) input in result ≡ p.status → HasGot (O.got out.old) (O.got out.new) p.text) }
+    ensures input { result ≡ Status.Done → IfSome (S.left source.old) (λ _. S.left source.new ≡ Some []) }
+
+    // Whatever the answer, the files and the text are prefixes of the plain program's.
+    ensures file_prefixes { IfSome (S.left source.old) (λ input. HasFilePrefixes (F.files store.old) (F.files store.new) (plain (map string_bytes words.now) input).files) }
+    ensures text_prefix { IfSome (S.left source.old) (λ input. HasGotPrefix (O.got out.old) (O.got out.new) (plain (map string_bytes words.now) input).text) }
+
+    ensures untouched { BeforeFiles result ((store.new ≡ store.old) × (out.new ≡ out.old)) }
+
+    // A fault is answered only where the outside failed.
+    ensures read_fault { result ≡ Status.ReadFault → Rose (S.faults source.old) (S.faults source.new) }
+    ensures write_fault { result ≡ Status.WriteFault → Rose (F.faults store.old) (F.faults store.new) ⊎ Rose (O.faults out.old) (O.faults out.new) }
+
+    // Where none of them failed, the answer is the plain program's, or memory ran out.
+    ensures complete { ¬ Rose (S.faults source.old) (S.faults source.new) → ¬ Rose (F.faults store.old) (F.faults store.new) → ¬ Rose (O.faults out.old) (O.faults out.new) → IfSome (S.left source.old) (λ input. (result ≡ (plain (map string_bytes words.now) input).status) ⊎ (result ≡ Status.NoMemory)) }
+{
+    match read_command(words) {
+        Ok(Command::Run) => run_source(alloc, source, store, out),
+        Err(fault) => Status::Words(fault),
+    }
+}
+
+/// Runs the scenario that the source spells, or answers its refusal.
+fn run_source<S: Source, F: TraceStore, O: Sink>(
+    alloc: Global,
+    source: &mut S,
+    store: &mut F,
+    out: &mut O,
+) -> Status
+    requires { (rest : List ℕ) → F.takes store.old (codes "trace" ++ rest) }
+    ensures answer { IfSome (S.left source.old) (λ input. IsAnswer (run_of (scenario_of input)).status result) }
+    ensures untouched { BeforeFiles result ((store.new ≡ store.old) × (out.new ≡ out.old)) }
+    ensures input { result ≡ Status.Done → IfSome (S.left source.old) (λ _. S.left source.new ≡ Some []) }
+    ensures files { IfSome (S.left source.old) (λ input. result ≡ (run_of (scenario_of input)).status → HasFiles (F.files store.old) (F.files store.new) (run_of (scenario_of input)).files) }
+    ensures text { IfSome (S.left source.old) (λ input. result ≡ (run_of (scenario_of input)).status → HasGot (O.got out.old) (O.got out.new) (run_of (scenario_of input)).text) }
+    ensures file_prefixes { IfSome (S.left source.old) (λ input. HasFilePrefixes (F.files store.old) (F.files store.new) (run_of (scenario_of input)).files) }
+    ensures text_prefix { IfSome (S.left source.old) (λ input. HasGotPrefix (O.got out.old) (O.got out.new) (run_of (scenario_of input)).text) }
+    ensures read_fault { result ≡ Status.ReadFault → Rose (S.faults source.old) (S.faults source.new) }
+    ensures write_fault { result ≡ Status.WriteFault → Rose (F.faults store.old) (F.faults store.new) ⊎ Rose (O.faults out.old) (O.faults out.new) }
+    ensures later { (S.faults source.old ≤ S.faults source.new) × (F.faults store.old ≤ F.faults store.new) × (O.faults out.old ≤ O.faults out.new) }
+{
+    let bytes = match read_all(alloc, source, SCENARIO_LIMIT) {
+        Ok(bytes) => bytes,
+        Err(InputStop::Failed) => return Status::ReadFault,
+        Err(InputStop::NoMemory) => return Status::NoMemory,
+    };
+    run_bytes(alloc, bytes.as_slice(), store, out)
+}
+
+/// Runs the scenario that the bytes spell, or answers its refusal.
+fn run_bytes<F: TraceStore, O: Sink>(
+    alloc: Global,
+    bytes: &[u8],
+    store: &mut F,
+    out: &mut O,
+) -> Status
+    requires { (rest : List ℕ) → F.takes store.old (codes "trace" ++ rest) }
+    ensures answer { IsAnswer (run_of (scenario_of bytes.now)).status result }
+    ensures no_read_fault { result ≢ Status.ReadFault }
+    ensures untouched { BeforeFiles result ((store.new ≡ store.old) × (out.new ≡ out.old)) }
+    ensures short { result ≡ Status.Done → length bytes.now ≤ scenario_limit }
+    ensures files { result ≡ (run_of (scenario_of bytes.now)).status → HasFiles (F.files store.old) (F.files store.new) (run_of (scenario_of bytes.now)).files }
+    ensures text { result ≡ (run_of (scenario_of bytes.now)).status → HasGot (O.got out.old) (O.got out.new) (run_of (scenario_of bytes.now)).text }
+    ensures file_prefixes { HasFilePrefixes (F.files store.old) (F.files store.new) (run_of (scenario_of bytes.now)).files }
+    ensures text_prefix { HasGotPrefix (O.got out.old) (O.got out.new) (run_of (scenario_of bytes.now)).text }
+    ensures later { (F.faults store.old ≤ F.faults store.new) × (O.faults out.old ≤ O.faults out.new) }
+    ensures write_fault { result ≡ Status.WriteFault → Rose (F.faults store.old) (F.faults store.new) ⊎ Rose (O.faults out.old) (O.faults out.new) }
+{
+    let scenario = match read_scenario(alloc, bytes) {
+        Ok(scenario) => scenario,
+        Err(ReadStop::Refused(refusal)) => return Status::Scenario(refusal),
+        Err(ReadStop::NoMemory) => return Status::NoMemory,
+    };
+    match simulate(alloc, &scenario, store, out) {
+        Ok(()) => Status::Done,
+        Err(RunStop::WriteFault) => Status::WriteFault,
+        Err(RunStop::NoMemory) => Status::NoMemory,
+    }
+}
