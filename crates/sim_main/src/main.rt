@@ -1,0 +1,117 @@
+//! The program: it reads a scenario from standard input, runs it, and writes its capture file into the
+//! working folder and its summary to standard output. Where something stops it, it writes one line
+//! that says what, and ends with a status other than 0.
+#![tactic(auto)]
+
+use outside::{FolderStore, StdinSource, StdoutSink};
+use sim_run::{Refusal, Status, WordCode, WordFault, run_program};
+use std::process::ExitCode;
+use std::{env, io};
+
+/// How many words of the command line are looked at.
+const WORDS: usize = 1000;
+
+/// The words of the command line behind the program's name. Words that are not UTF-8 are a faulty
+/// command line.
+fn words(rt: &HostRuntime) -> Result<Vec<String>, Status> {
+    let args = match env::args(rt) {
+        Ok(args) => args,
+        Err(error) => return Err(status_of(&error)),
+    };
+    let mut words = Vec::new(rt.alloc());
+    for word in args.skip(1) {
+        if words.push(word).is_err() {
+            return Err(Status::NoMemory);
+        }
+    }
+    Ok(words)
+}
+
+/// What stops the program where its command line can't be read.
+fn status_of(error: &io::Error) -> Status {
+    if error.kind() == io::ErrorKind::OutOfMemory {
+        return Status::NoMemory;
+    }
+    Status::Words(WordFault {
+        place: 1,
+        code: WordCode::UnknownCommand,
+    })
+}
+
+/// Runs the program over the real input, folder and output.
+fn run(rt: &HostRuntime) -> Status {
+    let words = match words(rt) {
+        Ok(words) => words,
+        Err(status) => return status,
+    };
+    let Ok(folder) = rt.clone() else {
+        return Status::NoMemory;
+    };
+    let mut source = StdinSource::new(rt.stdin());
+    let mut store = FolderStore::new(rt.alloc(), folder);
+    let mut sink = StdoutSink::new(rt.stdout());
+    run_program(
+        rt.alloc(),
+        &words[..words.len().min(WORDS)],
+        &mut source,
+        &mut store,
+        &mut sink,
+    )
+}
+
+/// Writes the line that says what stopped the program, if anything did.
+fn write_fault_line(rt: &HostRuntime, status: Status) -> io::Result<()> {
+    match status {
+        Status::Done => Ok(()),
+        Status::Words(WordFault { place, code }) => {
+            let name = code_name(code);
+            println!(rt; "words {place} {name}")
+        }
+        Status::Scenario(refusal) => {
+            let name = refusal_name(refusal);
+            println!(rt; "scenario {name}")
+        }
+        Status::ReadFault => println!(rt; "read fault"),
+        Status::WriteFault => println!(rt; "write fault"),
+        Status::NoMemory => println!(rt; "no memory"),
+    }
+}
+
+fn code_name(code: WordCode) -> &'static str {
+    match code {
+        WordCode::NoCommand => "NoCommand",
+        WordCode::UnknownCommand => "UnknownCommand",
+        WordCode::NoValue => "NoValue",
+        WordCode::UnknownKey => "UnknownKey",
+    }
+}
+
+fn refusal_name(refusal: Refusal) -> &'static str {
+    match refusal {
+        Refusal::TooLong { taken: _ } => "TooLong",
+        Refusal::NotToml => "NotToml",
+        Refusal::NotBuilt => "NotBuilt",
+    }
+}
+
+/// The exit status of a run.
+fn exit_code(status: Status) -> u8 {
+    match status {
+        Status::Done => 0,
+        Status::Words(_) => 1,
+        Status::Scenario(_) => 2,
+        Status::ReadFault => 3,
+        Status::WriteFault => 4,
+        Status::NoMemory => 6,
+    }
+}
+
+/// A fault line that can't be written is a write fault.
+fn main(rt: HostRuntime) -> ExitCode {
+    let status = run(&rt);
+    let status = match write_fault_line(&rt, status) {
+        Ok(()) => status,
+        Err(_) => Status::WriteFault,
+    };
+    ExitCode::from(exit_code(status))
+}
