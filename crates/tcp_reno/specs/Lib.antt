@@ -1,0 +1,2 @@
+pub mod NewReno
+pub mod Step
