@@ -1,0 +1,16 @@
+pub mod InsertLaws
+pub mod ListLaws
+pub mod Commute
+pub mod Plain
+pub mod Window
+pub mod RoundLaw
+pub mod Counts
+pub mod Ending
+pub mod Members
+pub mod PartLaws
+pub mod HandOver
+pub mod KernelLaws
+pub mod LookaheadLaws
+pub mod LineLaws
+pub mod Existence
+pub mod OneGroup
