@@ -1,16 +1,17 @@
 -- A plain run ends within a stated number of firings.
-use Rattle.std.proofs.Common.{◌≡◌, ℕ, ◌<◌, ◌≤◌, ◌+◌, zero, suc, length, Bool, true, false, List, [], ◌∷◌, ◌==◌, if◌then◌else◌, refl, ap, ◌∙◌, arith, inl, inr, Option, Some, None, eq-eqb}
+use Rattle.std.proofs.Common.{◌≡◌, ℕ, ◌<◌, ◌≤◌, ◌+◌, zero, suc, length, Bool, true, false, List, [], ◌∷◌, ◌==◌, if◌then◌else◌, refl, ap, ◌∙◌, arith, inl, inr, Option, Some, None, eq-eqb, ◌↔◌}
 use Rattle.std.proofs.lemmas.Bool.{cases_Bool, cases_eq, ne_eqb}
 use Rattle.std.proofs.lemmas.Bool.Decides.{nat_tests}
 use Rattle.sim_base.specs.declared.key.Key.{Key}
 use Rattle.round_core.specs.Order.{insert_by, insert_each}
 use Rattle.round_core.specs.World.{Event, Send, Rules, World, Ready, first, without_first, scheduled, next, after, fire, Rests}
-use Rattle.round_core.specs.Rounds.{below, plain_firings, IsPlainRun}
+use Rattle.round_core.specs.Rounds.{Ending, PlainEnds, below, plain_firings, IsPlainRun}
 use Rattle.round_core.specs.Laws.{Health, IsHealthy, IsSound, IsLawful}
-use Rattle.round_core.specs.Bound.{IsBounded, room_of, most_firings}
+use Rattle.round_core.specs.Bound.{IsBounded, room_of, most_firings, plain_run, plain_ending}
 use Rattle.round_core.proofs.ListLaws.{length-insert, first-holds}
 use Rattle.round_core.proofs.Commute.{next-found}
 use Rattle.round_core.proofs.Plain.{fire-moves, plain-idle}
+use Rattle.round_core.proofs.Counts.{plain-unique}
 use Rattle.round_core.proofs.Window.{fire-sound}
 
 pub length-insert_each : {A : Type 0} (key_of : A → Key) (xs l : List A) → length (insert_each key_of xs l) ≡ length xs + length l
@@ -92,9 +93,19 @@ module _ {Node Lan Load Text : Type 0} (rules : Rules Node Lan Load Text) (ok : 
 
   -- every plain run ends, within as many firings as can come at most
   pub plain_ends : (stop : ℕ) (w : World Node Lan Load Text) → IsSound rules ok w →
-      IsPlainRun rules stop w (plain_firings rules stop (most_firings count room w) w)
+      IsPlainRun rules stop w (plain_run rules stop count room w)
+  unfolding plain_run
   plain_ends stop w sound = record {
     steps = most_firings count room w;
     reached = refl;
     rests = bounded-rests stop (most_firings count room w) w sound (omega arith);
   }
+
+  -- the function's run is the one that the relation gives
+  pub plain-is_run : (stop : ℕ) (w : World Node Lan Load Text) (ending : Ending Node Lan Load Text) → IsSound rules ok w →
+      PlainEnds rules stop w ending ↔ (plain_ending rules stop count room w ≡ ending)
+  plain-is_run stop w ending sound = (
+    λ p. plain-unique rules stop w (plain_ending rules stop count room w) ending
+        (record { final = plain_run rules stop count room w; run = plain_ends stop w sound; ends = refl }) p,
+    λ e. record { final = plain_run rules stop count room w; run = plain_ends stop w sound; ends = e },
+  )

@@ -14,3 +14,4 @@ pub mod LookaheadLaws
 pub mod LineLaws
 pub mod Existence
 pub mod OneGroup
+pub mod OpeningLaws

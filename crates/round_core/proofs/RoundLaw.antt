@@ -7,9 +7,9 @@ use Rattle.std.specs.List.{AllByRecursion}
 use Rattle.sim_base.specs.declared.key.Key.{Key}
 use Rattle.sim_base.specs.KeyOrder.{before}
 use Rattle.round_core.specs.Order.{IsRising}
-use Rattle.round_core.specs.World.{Event, Firing, Limit, Rules, World, Ready, reaction, first, next, after, after_next, fire, Rests, IsPast}
-use Rattle.round_core.specs.Rounds.{below, plain_firings, Ending, Limited, ending_at, PlainEnds, Cut, IsAllowed, IsRound, RunsInRounds, Ends, Stops, Goes_on}
-use Rattle.round_core.specs.Laws.{Health, IsSound, IsLawful, IsClosed, BeginsAt}
+use Rattle.round_core.specs.World.{Event, Firing, Limit, Rules, World, Ready, reaction, first, next, after, after_next, fire, Rests, in_order, IsPast}
+use Rattle.round_core.specs.Rounds.{below, group_firings, IsFull, plain_firings, IsPlainRun, Ending, Limited, ending_at, PlainEnds, Cut, IsAllowed, IsRound, RunsInRounds, Ends, Stops, Goes_on}
+use Rattle.round_core.specs.Laws.{Health, IsSound, IsLawful, KeepsLans, IsClosed, BeginsAt}
 use Rattle.sim_base.proofs.KeyLaws.{before-time}
 use Rattle.round_core.proofs.ListLaws.{all-map, first-passes}
 use Rattle.round_core.proofs.Plain.{first-head, first-narrow, next-none, fire-same, plain-idle, stuck-refused, refused-next, first-of_head}
@@ -114,91 +114,123 @@ module _ {Node Lan Load Text : Type 0} (rules : Rules Node Lan Load Text) (ok : 
         above = subst Q (sym h.1) (omega arith, all-map _ _ (λ x up. before-time e.key x.key up) h.0 (subst P h.1 sound.rising).0);
       }
 
+  -- a round that met a limit at the event e, beside the plain firings in its window
+  pub record MeetsLimit (end : ℕ) (v mid : World Node Lan Load Text) (e : Event Load) : Type 0 where
+    pub plain_first : first (below end) v.pending ≡ Some e
+    pub first_left : first (below end) mid.pending ≡ Some e
+    pub refused : reaction rules v e ≡ Limit
+    pub before_it : filter (λ f. before f.key e.key) mid.fired ≡ v.fired
+
+  -- how the plain run ends where a round met a limit
+  pub stops : (stop : ℕ) (w mid : World Node Lan Load Text) (groups : List ℕ) (end : ℕ) (e : Event Load) → IsSound rules ok w → end ≤ stop →
+      MeetsLimit end (plain_firings rules end (suc (length groups)) w) mid e →
+      PlainEnds rules stop w (Limited e.key (filter (λ f. before f.key e.key) mid.fired))
+  stops stop w mid groups end e sound le limit =
+      let v = plain_firings rules end (suc (length groups)) w in
+      let wider = plain-wider end stop (suc (length groups)) w le sound in
+      let least = first-wider end stop v.pending e le (plain-sound rules ok lawful end (suc (length groups)) w sound).rising limit.plain_first in
+      record {
+        final = v;
+        run = record { steps = wider.0; reached = wider.1; rests = refused-next rules (below stop) v e least limit.refused };
+        ends = ap (ending_at v) least ∙ ap (Limited e.key) (sym limit.before_it);
+      }
+
+  -- the plain run goes on from where a round ends
+  goes_on : (stop : ℕ) (w mid : World Node Lan Load Text) (n end : ℕ) (ending : Ending Node Lan Load Text) → IsSound rules ok w → end ≤ stop →
+      mid ≡ plain_firings rules end n w → PlainEnds rules stop mid ending → PlainEnds rules stop w ending
+  goes_on stop w mid n end ending sound le same rest =
+      let wider = plain-wider end stop n w le sound in
+      let more = plain-more rules stop wider.0 rest.run.steps w in
+      record {
+        final = rest.final;
+        run = record {
+          steps = more.0;
+          reached = more.1 ∙ ap (plain_firings rules stop rest.run.steps) (wider.1 ∙ sym same) ∙ rest.run.reached;
+          rests = rest.run.rests;
+        };
+        ends = rest.ends;
+      }
+
+  -- how a full list leaves a window, beside the plain firings in it
+  pub window-turn : (group_of : ℕ → ℕ) (keeps : KeepsLans rules group_of) (from end : ℕ) (closed : IsClosed rules ok group_of from end)
+      (groups : List ℕ) (w : World Node Lan Load Text) → BeginsAt rules ok from w → IsPast w → IsFull rules group_of end groups w →
+      ((in_order (group_firings rules group_of end groups w) ≡ plain_firings rules end (suc (length groups)) w)
+      × (first (below end) (group_firings rules group_of end groups w).pending ≡ None))
+      ⊎ ((e : Event Load) × MeetsLimit end (plain_firings rules end (suc (length groups)) w)
+      (in_order (group_firings rules group_of end groups w)) e)
+  window-turn group_of keeps from end closed groups w fits past full = go (first (below end) v.pending) refl
+    where
+      v : World Node Lan Load Text
+      v = plain_firings rules end (suc (length groups)) w
+
+      mid : World Node Lan Load Text
+      mid = in_order (group_firings rules group_of end groups w)
+
+      go : (o : Option (Event Load)) → first (below end) v.pending ≡ o →
+          ((mid ≡ v) × (first (below end) mid.pending ≡ None)) ⊎ ((e : Event Load) × MeetsLimit end v mid e)
+      go None is =
+          let same : mid ≡ v = full-is_plain rules ok lawful group_of keeps from end closed groups (suc (length groups)) w fits past full is in
+          inl (same, ap (λ (x : World Node Lan Load Text). first (below end) x.pending) same ∙ is)
+      go (Some e) is =
+          let stuck = full-limited rules ok lawful group_of keeps from end closed groups w e fits past full is in
+          let rests = plain-rests rules ok lawful group_of keeps from end closed groups w fits past full in
+          inr (
+            e,
+            record {
+              plain_first = is;
+              first_left = ap (first (below end)) stuck.head ∙ first-of_head (below end) e stuck.rest (first-passes (below end) v.pending e is);
+              refused = stuck-refused rules (below end) v e is rests;
+              before_it = stuck.before_it;
+            },
+          )
+
+  module _ (group_of : ℕ → ℕ) (keeps : KeepsLans rules group_of) (from end : ℕ) (closed : IsClosed rules ok group_of from end) where
+    -- where a full list leaves no event below the end, it leaves what the plain run to the end leaves
+    pub window-done : (groups : List ℕ) (w : World Node Lan Load Text) → BeginsAt rules ok from w → IsPast w →
+        IsFull rules group_of end groups w → first (below end) (group_firings rules group_of end groups w).pending ≡ None →
+        IsPlainRun rules end w (in_order (group_firings rules group_of end groups w))
+    window-done groups w fits past full none = elim (window-turn group_of keeps from end closed groups w fits past full) [
+      | inl plain ↦ record {
+        steps = suc (length groups);
+        reached = sym plain.0;
+        rests = next-none rules (below end) (in_order (group_firings rules group_of end groups w)) none;
+      }
+      | inr limit ↦ none-some _ limit.0 none limit.1.first_left
+    ]
+
+    -- where it leaves an event below the end, the plain run meets its limit there, behind the firings before it
+    pub window-limited : (groups : List ℕ) (w : World Node Lan Load Text) (e : Event Load) → BeginsAt rules ok from w → IsPast w →
+        IsFull rules group_of end groups w → first (below end) (group_firings rules group_of end groups w).pending ≡ Some e →
+        PlainEnds rules end w (Limited e.key (filter (λ f. before f.key e.key) (in_order (group_firings rules group_of end groups w)).fired))
+    window-limited groups w e fits past full left = elim (window-turn group_of keeps from end closed groups w fits past full) [
+      | inl plain ↦ none-some _ e plain.1 left
+      | inr limit ↦
+          let mid = in_order (group_firings rules group_of end groups w) in
+          let P : Event Load → Type 0 = λ x. PlainEnds rules end w (Limited x.key (filter (λ f. before f.key x.key) mid.fired)) in
+          subst P (some-same _ limit.0 e limit.1.first_left left) (stops end w mid groups end limit.0 fits.sound (omega arith) limit.1)
+    ]
+
   module _ (stop : ℕ) (cut : Cut) (allowed_cut : IsAllowed rules ok stop cut) where
     least-low : (w : World Node Lan Load Text) (e : Event Load) → first (below stop) w.pending ≡ Some e → e.key.time.0 < stop
     least-low w e is = below-time stop e.key (first-passes (below stop) w.pending e is)
-
-    -- a round that met a limit at the event e, beside the plain firings in its window
-    record MeetsLimit (end : ℕ) (v mid : World Node Lan Load Text) (e : Event Load) : Type 0 where
-      plain_first : first (below end) v.pending ≡ Some e
-      first_left : first (below end) mid.pending ≡ Some e
-      refused : reaction rules v e ≡ Limit
-      before_it : filter (λ f. before f.key e.key) mid.fired ≡ v.fired
 
     -- how a round ends, beside the plain firings in its window
     round-turn : (w mid : World Node Lan Load Text) (groups : List ℕ) (end : ℕ) → IsSound rules ok w → IsPast w →
         IsRound rules stop cut w groups end mid →
         ((mid ≡ plain_firings rules end (suc (length groups)) w) × (first (below end) mid.pending ≡ None))
         ⊎ ((e : Event Load) × MeetsLimit end (plain_firings rules end (suc (length groups)) w) mid e)
-    round-turn w mid groups end sound past round = go (first (below end) v.pending) refl
-      where
-        v : World Node Lan Load Text
-        v = plain_firings rules end (suc (length groups)) w
-
-        low : round.least.key.time.0 < stop
-        low = least-low w round.least round.begins
-
-        fits : BeginsAt rules ok round.least.key.time.0 w
-        fits = begins-fits stop w round.least sound round.begins
-
-        closed : IsClosed rules ok cut.group_of round.least.key.time.0 end
-        closed = let P : ℕ → Type 0 = λ x. IsClosed rules ok cut.group_of round.least.key.time.0 x in
-            subst P round.ends (allowed_cut.closed round.least.key.time.0 low)
-
-        go : (o : Option (Event Load)) → first (below end) v.pending ≡ o →
-            ((mid ≡ v) × (first (below end) mid.pending ≡ None)) ⊎ ((e : Event Load) × MeetsLimit end v mid e)
-        go None is =
-            let same : mid ≡ v = sym round.leaves ∙ full-is_plain rules ok lawful cut.group_of allowed_cut.lans round.least.key.time.0 end closed
-            groups (suc (length groups)) w fits past round.full is in
-            inl (same, ap (λ (x : World Node Lan Load Text). first (below end) x.pending) same ∙ is)
-        go (Some e) is =
-            let P : World Node Lan Load Text → Type 0 = λ x. IsStuck rules ok lawful cut.group_of allowed_cut.lans round.least.key.time.0 end closed e v.fired x in
-            let stuck : P mid = subst P round.leaves (full-limited rules ok lawful cut.group_of allowed_cut.lans round.least.key.time.0 end closed
-            groups w e fits past round.full is) in
-            let rests = plain-rests rules ok lawful cut.group_of allowed_cut.lans round.least.key.time.0 end closed groups w fits past round.full in
-            inr (
-              e,
-              record {
-                plain_first = is;
-                first_left = ap (first (below end)) stuck.head ∙ first-of_head (below end) e stuck.rest (first-passes (below end) v.pending e is);
-                refused = stuck-refused rules (below end) v e is rests;
-                before_it = stuck.before_it;
-              },
-            )
+    round-turn w mid groups end sound past round =
+        let low = least-low w round.least round.begins in
+        let P : ℕ → Type 0 = λ x. IsClosed rules ok cut.group_of round.least.key.time.0 x in
+        let closed = subst P round.ends (allowed_cut.closed round.least.key.time.0 low) in
+        let v = plain_firings rules end (suc (length groups)) w in
+        let Q : World Node Lan Load Text → Type 0 = λ x. ((x ≡ v) × (first (below end) x.pending ≡ None)) ⊎ ((e : Event Load) × MeetsLimit end v x e) in
+        subst Q round.leaves (window-turn cut.group_of allowed_cut.lans round.least.key.time.0 end closed groups w
+        (begins-fits stop w round.least sound round.begins) past round.full)
 
     end-within : (w mid : World Node Lan Load Text) (groups : List ℕ) (end : ℕ) → IsRound rules stop cut w groups end mid → end ≤ stop
     end-within w mid groups end round =
         let le = allowed_cut.within round.least.key.time.0 (least-low w round.least round.begins) in let e = round.ends in omega arith
-
-    -- how the plain run ends where a round met a limit
-    stops : (w mid : World Node Lan Load Text) (groups : List ℕ) (end : ℕ) (e : Event Load) → IsSound rules ok w → end ≤ stop →
-        MeetsLimit end (plain_firings rules end (suc (length groups)) w) mid e →
-        PlainEnds rules stop w (Limited e.key (filter (λ f. before f.key e.key) mid.fired))
-    stops w mid groups end e sound le limit =
-        let v = plain_firings rules end (suc (length groups)) w in
-        let wider = plain-wider end stop (suc (length groups)) w le sound in
-        let least = first-wider end stop v.pending e le (plain-sound rules ok lawful end (suc (length groups)) w sound).rising limit.plain_first in
-        record {
-          final = v;
-          run = record { steps = wider.0; reached = wider.1; rests = refused-next rules (below stop) v e least limit.refused };
-          ends = ap (ending_at v) least ∙ ap (Limited e.key) (sym limit.before_it);
-        }
-
-    -- the plain run goes on from where a round ends
-    goes_on : (w mid : World Node Lan Load Text) (n end : ℕ) (ending : Ending Node Lan Load Text) → IsSound rules ok w → end ≤ stop →
-        mid ≡ plain_firings rules end n w → PlainEnds rules stop mid ending → PlainEnds rules stop w ending
-    goes_on w mid n end ending sound le same rest =
-        let wider = plain-wider end stop n w le sound in
-        let more = plain-more rules stop wider.0 rest.run.steps w in
-        record {
-          final = rest.final;
-          run = record {
-            steps = more.0;
-            reached = more.1 ∙ ap (plain_firings rules stop rest.run.steps) (wider.1 ∙ sym same) ∙ rest.run.reached;
-            rests = rest.run.rests;
-          };
-          ends = rest.ends;
-        }
 
     -- what a round that leaves nothing below its end keeps
     pub round-keeps : (w mid : World Node Lan Load Text) (groups : List ℕ) (end : ℕ) → IsSound rules ok w → IsPast w →
@@ -233,9 +265,9 @@ module _ {Node Lan Load Text : Type 0} (rules : Rules Node Lan Load Text) (ok : 
           | inr limit ↦
               let P : Event Load → Type 0 = λ x. PlainEnds rules stop w (Limited x.key (filter (λ f. before f.key x.key) mid.fired)) in
               subst P (some-same _ limit.0 e limit.1.first_left left)
-              (stops w mid groups end limit.0 sound (end-within w mid groups end round) limit.1)
+              (stops stop w mid groups end limit.0 sound (end-within w mid groups end round) limit.1)
         ]
     rounds-end w rounds ending sound past (Goes_on {groups = groups} {more = more} end mid round none run) =
         let kept = round-keeps w mid groups end sound past round none in
-        goes_on w mid (suc (length groups)) end ending sound (end-within w mid groups end round) kept.0
+        goes_on stop w mid (suc (length groups)) end ending sound (end-within w mid groups end round) kept.0
         (rounds-end mid more ending kept.1 kept.2 run)

@@ -1,6 +1,7 @@
 -- Why a run ends: each node may schedule only so many more events.
 use Rattle.std.specs.Prelude.{◌≡◌, ℕ, ◌+◌, ◌<◌, ◌≤◌, zero, suc, length}
 use Rattle.round_core.specs.Laws.{Health, IsHealthy}
+use Rattle.round_core.specs.Rounds.{Ending, ending_of, plain_firings}
 use Rattle.round_core.specs.World.{Event, Effect, Rules, World, Does, reaction}
 
 -- the nodes are those below a count, and each firing takes its sends from what its node may still schedule
@@ -18,3 +19,13 @@ room_of room nodes (suc n) = room_of room nodes n + room (nodes n)
 -- how many firings can come at most
 abbrev pub most_firings : {Node Lan Load Text : Type 0} → ℕ → (Node → ℕ) → World Node Lan Load Text → ℕ
 most_firings count room w = length w.pending + room_of room w.nodes count
+
+-- the plain run from a world, as a function: as many firings as can come at most
+unfoldable pub plain_run : {Node Lan Load Text : Type 0} → Rules Node Lan Load Text → ℕ → ℕ → (Node → ℕ) →
+    World Node Lan Load Text → World Node Lan Load Text
+plain_run rules stop count room w = plain_firings rules stop (most_firings count room w) w
+
+-- how it ends
+abbrev pub plain_ending : {Node Lan Load Text : Type 0} → Rules Node Lan Load Text → ℕ → ℕ → (Node → ℕ) →
+    World Node Lan Load Text → Ending Node Lan Load Text
+plain_ending rules stop count room w = ending_of stop (plain_run rules stop count room w)

@@ -27,17 +27,22 @@ pub data Ending (Node Lan Load Text : Type 0) : Type 0 where
   Done : (final : World Node Lan Load Text) → Ending Node Lan Load Text
   Limited : (key : Key) (done : List (Firing Text)) → Ending Node Lan Load Text
 
+-- how a run ends at a world, by the event that is left below stop
 abbrev pub ending_at : {Node Lan Load Text : Type 0} → World Node Lan Load Text → Option (Event Load) →
     Ending Node Lan Load Text
 ending_at final None = Done final
 ending_at final (Some e) = Limited e.key final.fired
+
+-- how a run ends that has come to rest at a world
+abbrev pub ending_of : {Node Lan Load Text : Type 0} → ℕ → World Node Lan Load Text → Ending Node Lan Load Text
+ending_of stop final = ending_at final (first (below stop) final.pending)
 
 -- the plain run from a world ends so
 pub record PlainEnds {Node Lan Load Text : Type 0} (rules : Rules Node Lan Load Text) (stop : ℕ)
     (w : World Node Lan Load Text) (ending : Ending Node Lan Load Text) : Type 0 where
   pub final : World Node Lan Load Text
   pub run : IsPlainRun rules stop w final
-  pub ends : ending_at final (first (below stop) final.pending) ≡ ending
+  pub ends : ending_of stop final ≡ ending
 
 -- the keys of a group below a time
 abbrev pub in_group : (ℕ → ℕ) → ℕ → ℕ → Key → Bool

@@ -1,16 +1,17 @@
 //! The pure law of rounds: what a run in rounds over groups writes is what the plain run writes.
 #![tactic(auto)]
 
-ghost use Rattle.std.specs.Prelude.{◌≡◌, ◌++◌, ℕ, suc, List, [], Option, Some, None, filter, length};
+ghost use Rattle.std.specs.Prelude.{◌≡◌, ◌++◌, ℕ, suc, List, [], Option, Some, None, filter, length, ◌↔◌};
 ghost use Rattle.round_core.specs.Kernel.{IsLeastLeft, IsNextRound, IsRoundOfParts};
 ghost use Rattle.round_core.specs.Lines.{AreMergedLines, Line, LinesRise, lines_of};
 ghost use Rattle.round_core.specs.Lookahead.{LooksAhead, LooksAheadBySteps, Steps, lookahead_cut, stepped_cut};
 ghost use Rattle.round_core.specs.Parts.{AreHandedOver, AreParts, Part};
-ghost use Rattle.round_core.specs.Bound.{IsBounded, most_firings};
+ghost use Rattle.round_core.specs.Bound.{IsBounded, plain_ending, plain_run};
 ghost use Rattle.round_core.specs.Laws.{Health, IsClosed, IsLawful, IsSound, KeepsLans, BeginsAt};
 ghost use Rattle.sim_base.specs.KeyOrder.{before};
+ghost use Rattle.round_core.specs.Opening.{IsOpening, opening};
 ghost use Rattle.round_core.specs.Order.{IsRising};
-ghost use Rattle.round_core.specs.Rounds.{Cut, Ending, Done, Limited, below, fired_by, IsAllowed, IsFull, IsPlainRun, IsPrefixOf, PlainEnds, RunsInRounds, firings_of, group_firings, plain_firings, times_of, windows};
+ghost use Rattle.round_core.specs.Rounds.{Cut, Ending, Done, Limited, below, fired_by, IsAllowed, IsFull, IsPlainRun, IsPrefixOf, PlainEnds, RunsInRounds, firings_of, group_firings, times_of, windows};
 ghost use Rattle.round_core.specs.World.{Event, Firing, IsPast, Rules, World, first, in_order, with_log};
 
 /// A simulation, for the laws: its rules, and what it keeps true of its nodes, LANs and events.
@@ -28,14 +29,39 @@ pub trait Simulation {
     ghost health: { Self → Health Self.Node Self.Lan Self.Load };
 }
 
+/// A world made of nodes, LANs and first events that are well is sound.
+pub fn opening_is_sound<S: Simulation>()
+    ensures sound { (sim : S) (nodes : ℕ → S.Node) (lans : ℕ → S.Lan) (events : List (Event S.Load)) →
+        IsOpening (S.rules sim) (S.health sim) nodes lans events →
+        IsSound (S.rules sim) (S.health sim) (opening nodes lans events) }
+    ensures past { (sim : S) (nodes : ℕ → S.Node) (lans : ℕ → S.Lan) (events : List (Event S.Load)) →
+        IsOpening (S.rules sim) (S.health sim) nodes lans events →
+        IsPast {Node = S.Node} {Lan = S.Lan} {Load = S.Load} {Text = S.Text} (opening nodes lans events) }
+{}
+
 /// Every list of groups that leaves no group with an event to fire below a window's end leaves the same nodes and
-/// LANs, the same pending events in the order of their keys, and the same firings in the order of their keys.
+/// LANs, the same pending events in the order of their keys, and the same firings in the order of their keys; so it
+/// meets the same least limit. These are what the plain run leaves at the window's end or at that limit.
 pub fn full_lists_agree<S: Simulation>()
-    ensures { (sim : S) (group_of : ℕ → ℕ) (from end : ℕ) (w : World S.Node S.Lan S.Load S.Text) (some others : List ℕ) →
+    ensures agree { (sim : S) (group_of : ℕ → ℕ) (from end : ℕ) (w : World S.Node S.Lan S.Load S.Text) (some others : List ℕ) →
         IsLawful (S.rules sim) (S.health sim) → KeepsLans (S.rules sim) group_of →
         IsClosed (S.rules sim) (S.health sim) group_of from end → BeginsAt (S.rules sim) (S.health sim) from w →
         IsFull (S.rules sim) group_of end some w → IsFull (S.rules sim) group_of end others w →
         in_order (group_firings (S.rules sim) group_of end some w) ≡ in_order (group_firings (S.rules sim) group_of end others w) }
+    ensures ends { (sim : S) (group_of : ℕ → ℕ) (from end : ℕ) (w : World S.Node S.Lan S.Load S.Text) (groups : List ℕ) →
+        IsLawful (S.rules sim) (S.health sim) → KeepsLans (S.rules sim) group_of →
+        IsClosed (S.rules sim) (S.health sim) group_of from end → BeginsAt (S.rules sim) (S.health sim) from w → IsPast w →
+        IsFull (S.rules sim) group_of end groups w →
+        let left = in_order (group_firings (S.rules sim) group_of end groups w) in
+        first (below end) left.pending ≡ None → IsPlainRun (S.rules sim) end w left }
+    ensures limited { (sim : S) (group_of : ℕ → ℕ) (from end : ℕ) (w : World S.Node S.Lan S.Load S.Text) (groups : List ℕ)
+        (e : Event S.Load) →
+        IsLawful (S.rules sim) (S.health sim) → KeepsLans (S.rules sim) group_of →
+        IsClosed (S.rules sim) (S.health sim) group_of from end → BeginsAt (S.rules sim) (S.health sim) from w → IsPast w →
+        IsFull (S.rules sim) group_of end groups w →
+        let left = in_order (group_firings (S.rules sim) group_of end groups w) in
+        first (below end) left.pending ≡ Some e →
+        PlainEnds (S.rules sim) end w (Limited e.key (filter (λ f. before f.key e.key) left.fired)) }
 {}
 
 /// A run in rounds, over any allowed cut and by any lists of groups, ends as the plain run does, and what is written
@@ -55,14 +81,20 @@ pub fn rounds_end_as_plain<S: Simulation>()
         length rounds ≡ windows cut.end_of 0 (times_of final.fired) }
 {}
 
-/// A plain run ends in exactly one way, within a stated number of firings.
+/// A plain run ends, within a stated number of firings, and in one way: the function that fires so often is the plain
+/// run of the relation.
 pub fn plain_run_ends<S: Simulation>()
     ensures exists { (sim : S) (stop count : ℕ) (room : S.Node → ℕ) (w : World S.Node S.Lan S.Load S.Text) →
         IsLawful (S.rules sim) (S.health sim) → IsBounded (S.rules sim) (S.health sim) count room →
         IsSound (S.rules sim) (S.health sim) w →
-        IsPlainRun (S.rules sim) stop w (plain_firings (S.rules sim) stop (most_firings count room w) w) }
+        IsPlainRun (S.rules sim) stop w (plain_run (S.rules sim) stop count room w) }
     ensures unique { (sim : S) (stop : ℕ) (w : World S.Node S.Lan S.Load S.Text) (one other : Ending S.Node S.Lan S.Load S.Text) →
         PlainEnds (S.rules sim) stop w one → PlainEnds (S.rules sim) stop w other → one ≡ other }
+    ensures function { (sim : S) (stop count : ℕ) (room : S.Node → ℕ) (w : World S.Node S.Lan S.Load S.Text)
+        (ending : Ending S.Node S.Lan S.Load S.Text) →
+        IsLawful (S.rules sim) (S.health sim) → IsBounded (S.rules sim) (S.health sim) count room →
+        IsSound (S.rules sim) (S.health sim) w →
+        (PlainEnds (S.rules sim) stop w ending) ↔ (plain_ending (S.rules sim) stop count room w ≡ ending) }
 {}
 
 /// There is a run in rounds from each sound world, over any allowed cut.
