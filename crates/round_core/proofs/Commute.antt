@@ -1,94 +1,17 @@
 -- Within a window, firings of two groups commute.
-use Rattle.std.proofs.Common.{◌≡◌, ◌≢◌, ℕ, ◌<◌, ◌≤◌, ◌+◌, suc, length, eq-eqb, Bool, true, false, List, [], ◌∷◌, ◌++◌, ◌==◌, if◌then◌else◌, refl, sym, ap, ◌∙◌, subst, arith, inl, inr, ◌⊎◌, Option, Some, None}
+use Rattle.std.proofs.Common.{◌≡◌, ◌≢◌, ℕ, ◌<◌, ◌≤◌, ◌+◌, suc, length, eq-eqb, Bool, true, false, List, [], ◌∷◌, ◌==◌, if◌then◌else◌, refl, sym, ap, ◌∙◌, subst, arith, inl, inr, ◌⊎◌, Option, Some, None}
 use mathlib.Core.Path.{fun_ext}
 use Rattle.std.proofs.lemmas.Bool.{cases_Bool, cases_eq}
 use Rattle.std.proofs.lemmas.Bool.Decides.{nat_tests}
 use Rattle.std.specs.List.{AllByRecursion}
 use Rattle.sim_base.specs.declared.key.Key.{Key}
-use Rattle.round_core.specs.Order.{insert_by, insert_each, in_key_order}
-use Rattle.round_core.specs.World.{Event, Send, Firing, Reaction, Limit, Does, Rules, World, Ready, seen, reaction, scheduled, first, without_first, allowed, ready, next, after, after_next, fire, in_order}
+use Rattle.round_core.specs.Order.{insert_each}
+use Rattle.round_core.specs.World.{Event, Send, Firing, Rules, World, Ready, seen, reaction, scheduled, first, without_first, allowed, ready, next, after, fire, in_order}
 use Rattle.round_core.specs.Rounds.{in_group, group_firings, IsFull}
 use Rattle.round_core.specs.Laws.{Health, IsHealthy, IsSound, IsOwed, IsLawful, KeepsLans, IsClosed, BeginsAt}
 use Rattle.round_core.proofs.InsertLaws.{insert_insert}
 use Rattle.round_core.proofs.ListLaws.{all-map, all-insert_each, all-without, rising-without, falls-without, NeverFalls, never_falls, rising-scheduled, scheduled-counted, first-insert_each, without-insert_each, Apart, first-without, without_without, insert_each_insert_each, first-holds, first-passes}
-
--- what is ready is the first event that passes, and its target's effect
-pub record Found {Node Lan Load Text : Type 0} (rules : Rules Node Lan Load Text) (test : Key → Bool)
-    (w : World Node Lan Load Text) (r : Ready Node Lan Load Text) : Type 0 where
-  pub event : first test w.pending ≡ Some r.event
-  pub effect : reaction rules w r.event ≡ Does r.effect
-
-module _ {Node Lan Load Text : Type 0} (rules : Rules Node Lan Load Text) where
-  allowed-found : (e : Event Load) (answer : Reaction Node Lan Load Text) (r : Ready Node Lan Load Text) →
-      allowed e answer ≡ Some r → (e ≡ r.event) × (answer ≡ Does r.effect)
-  allowed-found e Limit r h = absurd (let d : None ≡ Some r = h in cc)
-  allowed-found e (Does effect) r h =
-      let s : Some (record { event = e; effect = effect }) ≡ Some r = h in
-      let same : record { event = e; effect = effect } ≡ r = cc in
-      (ap (λ (x : Ready Node Lan Load Text). x.event) same, ap (λ (x : Ready Node Lan Load Text). Does x.effect) same)
-
-  pub next-found : (test : Key → Bool) (w : World Node Lan Load Text) (r : Ready Node Lan Load Text) →
-      next rules test w ≡ Some r → Found rules test w r
-  unfolding next
-  next-found test w r h = go (first test w.pending) refl h
-    where
-      go : (o : Option (Event Load)) → first test w.pending ≡ o → ready rules w o ≡ Some r → Found rules test w r
-      go None is k = absurd (let d : None ≡ Some r = k in cc)
-      go (Some e) is k = let parts = allowed-found e (reaction rules w e) r k in
-          record { event = is ∙ ap Some parts.0; effect = rw parts.0 at parts.1 }
-
-  -- the world after a firing, with the firings so far kept in the order of their keys
-  unfoldable pub settled : (Key → Bool) → World Node Lan Load Text → Ready Node Lan Load Text → World Node Lan Load Text
-  unfolding after
-  settled test w r = record (after rules test w r) {
-    fired = insert_by (λ f. f.key) (record { key = r.event.key; texts = r.effect.texts }) w.fired;
-  }
-
-  abbrev pub settled_next : (Key → Bool) → World Node Lan Load Text → Option (Ready Node Lan Load Text) → World Node Lan Load Text
-  settled_next test w None = w
-  settled_next test w (Some r) = settled test w r
-
-  unfoldable pub settle : (Key → Bool) → World Node Lan Load Text → World Node Lan Load Text
-  settle test w = settled_next test w (next rules test w)
-
-insert_each-append : {A : Type 0} (key_of : A → Key) (xs ys l : List A) →
-    insert_each key_of (xs ++ ys) l ≡ insert_each key_of ys (insert_each key_of xs l)
-unfolding insert_each
-insert_each-append key_of [] ys l = refl
-insert_each-append key_of (x ∷ xs) ys l = insert_each-append key_of xs ys (insert_by key_of x l)
-
-module _ {Node Lan Load Text : Type 0} (rules : Rules Node Lan Load Text) where
-  -- what is ready does not hang on the firings so far
-  pub next-in_order : (test : Key → Bool) (w : World Node Lan Load Text) → next rules test (in_order w) ≡ next rules test w
-  unfolding next reaction
-  next-in_order test w = elim (first test w.pending) as (λ o. ready rules (in_order w) o ≡ ready rules w o) [ None ↦ refl | Some e ↦ refl ]
-
-  in_order-after : (test : Key → Bool) (w : World Node Lan Load Text) (r : Ready Node Lan Load Text) →
-      in_order (after rules test w r) ≡ settled rules test (in_order w) r
-  unfolding settled after insert_each
-  in_order-after test w r =
-      let f : Firing Text = record { key = r.event.key; texts = r.effect.texts } in
-      let e : in_key_order (λ x. x.key) (w.fired ++ f ∷ []) ≡ insert_by (λ x. x.key) f (in_key_order (λ x. x.key) w.fired) =
-      insert_each-append (λ x. x.key) w.fired (f ∷ []) [] in
-      λ i. record (after rules test w r) { fired = e i }
-
-  -- firing, and then putting the firings so far in order, is settling the world whose firings are in order
-  pub in_order-fire : (test : Key → Bool) (w : World Node Lan Load Text) → in_order (fire rules test w) ≡ settle rules test (in_order w)
-  unfolding fire settle
-  in_order-fire test w = rw (next-in_order test w) (
-      elim (next rules test w) as (λ o. in_order (after_next rules test w o) ≡ settled_next rules test (in_order w) o) [
-        | None ↦ refl
-        | Some r ↦ in_order-after test w r
-      ])
-
-  pub settle-idle : (test : Key → Bool) (w : World Node Lan Load Text) → next rules test w ≡ None → settle rules test w ≡ w
-  unfolding settle
-  settle-idle test w h = ap (settled_next rules test w) h
-
-  pub settle-moves : (test : Key → Bool) (w : World Node Lan Load Text) (r : Ready Node Lan Load Text) → next rules test w ≡ Some r →
-      settle rules test w ≡ settled rules test w r
-  unfolding settle
-  settle-moves test w r h = ap (settled_next rules test w) h
+use Rattle.round_core.proofs.Settling.{next-found, settled, settled_next, settle, next-in_order, in_order-fire, settle-idle, settle-moves}
 
 -- facts about the tests of groups
 pub in_group-true : (group_of : ℕ → ℕ) (end g : ℕ) (k : Key) → in_group group_of end g k ≡ true → (group_of k.node.0 ≡ g) × (k.time.0 < end)

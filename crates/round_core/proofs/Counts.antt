@@ -9,7 +9,7 @@ use Rattle.round_core.specs.World.{Event, Firing, Rules, World, Ready, first, ne
 use Rattle.round_core.specs.Rounds.{below, plain_firings, Ending, Done, Limited, ending_at, PlainEnds, Cut, IsAllowed, IsRound, RunsInRounds, Ends, Stops, Goes_on, windows, times_of, firings_of, IsPrefixOf}
 use Rattle.round_core.specs.Laws.{Health, IsSound, IsLawful}
 use Rattle.round_core.proofs.ListLaws.{first-holds, first-passes, all-append}
-use Rattle.round_core.proofs.Commute.{next-found}
+use Rattle.round_core.proofs.Settling.{next-found}
 use Rattle.round_core.proofs.Plain.{first-head, fire-moves, plain-idle, first-of_head}
 use Rattle.round_core.proofs.Window.{below-time}
 use Rattle.round_core.proofs.RoundLaw.{plain-meet, plain-prefix, all-above, round-keeps, none-some, some-same, time-below}

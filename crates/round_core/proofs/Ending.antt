@@ -9,7 +9,7 @@ use Rattle.round_core.specs.Rounds.{Ending, PlainEnds, below, plain_firings, IsP
 use Rattle.round_core.specs.Laws.{Health, IsHealthy, IsSound, IsLawful}
 use Rattle.round_core.specs.Bound.{IsBounded, room_of, most_firings, plain_run, plain_ending}
 use Rattle.round_core.proofs.ListLaws.{length-insert, first-holds}
-use Rattle.round_core.proofs.Commute.{next-found}
+use Rattle.round_core.proofs.Settling.{next-found}
 use Rattle.round_core.proofs.Plain.{fire-moves, plain-idle}
 use Rattle.round_core.proofs.Counts.{plain-unique}
 use Rattle.round_core.proofs.Window.{fire-sound}

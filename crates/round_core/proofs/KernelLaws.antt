@@ -14,7 +14,7 @@ use Rattle.round_core.proofs.Plain.{next-none}
 use Rattle.round_core.proofs.Window.{below-time, groups-sound, log-sound, plain-past}
 use Rattle.round_core.proofs.RoundLaw.{plain-more, plain-wider, begins-fits, round-keeps, rounds-end, all-above}
 use Rattle.round_core.proofs.Counts.{window-begins, windows-open, windows-inside, firings-at}
-use Rattle.round_core.proofs.PartLaws.{parts-run, parts-empty, parts-least}
+use Rattle.round_core.proofs.PartRounds.{parts-run, parts-empty, parts-least}
 use Rattle.round_core.proofs.HandOver.{empty-past, merged-all, merged-before, handed-over, plain-log, next-log, own-firings}
 
 module _ {Node Lan Load Text : Type 0} (rules : Rules Node Lan Load Text) (ok : Health Node Lan Load) (lawful : IsLawful rules ok)

@@ -1,5 +1,6 @@
 pub mod InsertLaws
 pub mod ListLaws
+pub mod Settling
 pub mod Commute
 pub mod Plain
 pub mod Window
@@ -7,7 +8,11 @@ pub mod RoundLaw
 pub mod Counts
 pub mod Ending
 pub mod Members
-pub mod PartLaws
+pub mod PartPlaces
+pub mod PartEvents
+pub mod PartFirings
+pub mod PartRounds
+pub mod PartSound
 pub mod HandOver
 pub mod KernelLaws
 pub mod LookaheadLaws

@@ -1,12 +1,12 @@
 -- The world before a run is sound.
-use Rattle.std.proofs.Common.{◌≡◌, ◌≢◌, ℕ, List, [], ◌∷◌, sym}
+use Rattle.std.proofs.Common.{◌≢◌, ℕ, List, [], ◌∷◌, sym}
 use Rattle.std.specs.List.{AllByRecursion}
 use Rattle.sim_base.specs.declared.key.Key.{Key}
 use Rattle.round_core.specs.Laws.{Health, IsSound}
 use Rattle.round_core.specs.Opening.{opening, HaveOwnKeys, IsOpening}
 use Rattle.round_core.specs.Order.{IsRising, insert_by, insert_each}
 use Rattle.round_core.specs.World.{Event, Rules, IsPast}
-use Rattle.round_core.proofs.ListLaws.{all-map, all-insert, all-insert_each, rising-insert}
+use Rattle.round_core.proofs.ListLaws.{all-insert, all-insert_each, rising-insert}
 use Rattle.round_core.proofs.Members.{all-in}
 
 -- items with keys of their own, put into a list in the order of keys that has none of these keys

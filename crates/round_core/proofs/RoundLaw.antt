@@ -13,7 +13,7 @@ use Rattle.round_core.specs.Laws.{Health, IsSound, IsLawful, KeepsLans, IsClosed
 use Rattle.sim_base.proofs.KeyLaws.{before-time}
 use Rattle.round_core.proofs.ListLaws.{all-map, first-passes}
 use Rattle.round_core.proofs.Plain.{first-head, first-narrow, next-none, fire-same, plain-idle, stuck-refused, refused-next, first-of_head}
-use Rattle.round_core.proofs.Window.{below-time, fire-sound, plain-sound, plain-past, plain-rests, full-is_plain, full-limited, IsStuck}
+use Rattle.round_core.proofs.Window.{below-time, fire-sound, plain-sound, plain-past, plain-rests, full-is_plain, full-limited}
 
 pub time-below : (end : ℕ) (k : Key) → k.time.0 < end → below end k ≡ true
 time-below end k h = grind (arith, nat_tests)

@@ -10,7 +10,8 @@ use Rattle.round_core.specs.Rounds.{below, in_group, group_firings, IsFull, plai
 use Rattle.round_core.specs.Laws.{Health, IsSound, IsLawful, KeepsLans, IsClosed, BeginsAt}
 use Rattle.sim_base.proofs.KeyLaws.{before-not_back, time-before, before-trans}
 use Rattle.round_core.proofs.ListLaws.{all-map, all-insert_each, first-holds, first-passes, all-snoc, rising-snoc, in_key_order-rising, length-insert, insert_each-behind, without-behind, first-behind, filter-insert, filter-all}
-use Rattle.round_core.proofs.Commute.{next-found, settled, settled_next, settle, settled-sound, ready-owed, all-scheduled, settle-fits, settled-fits, reaction-elsewhere, ready-group, settle_all, IsQuiet, settle_all-quiet, settle_all-commute, in_order-firings, full-quiet}
+use Rattle.round_core.proofs.Settling.{next-found, settled, settled_next, settle}
+use Rattle.round_core.proofs.Commute.{settled-sound, ready-owed, all-scheduled, settle-fits, settled-fits, reaction-elsewhere, ready-group, settle_all, IsQuiet, settle_all-quiet, settle_all-commute, in_order-firings, full-quiet}
 use Rattle.round_core.proofs.Plain.{first-head, first-none, next-none, fire-idle, fire-moves, plain-groups, plain-idle, stuck-refused, refused-next, first-of_head}
 
 in_group-below : (group_of : ℕ → ℕ) (end g : ℕ) (k : Key) → in_group group_of end g k ≡ true → below end k ≡ true

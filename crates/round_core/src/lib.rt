@@ -34,8 +34,7 @@ pub fn opening_is_sound<S: Simulation>()
     ensures sound { (sim : S) (nodes : ℕ → S.Node) (lans : ℕ → S.Lan) (events : List (Event S.Load)) →
         IsOpening (S.rules sim) (S.health sim) nodes lans events →
         IsSound (S.rules sim) (S.health sim) (opening nodes lans events) }
-    ensures past { (sim : S) (nodes : ℕ → S.Node) (lans : ℕ → S.Lan) (events : List (Event S.Load)) →
-        IsOpening (S.rules sim) (S.health sim) nodes lans events →
+    ensures past { (nodes : ℕ → S.Node) (lans : ℕ → S.Lan) (events : List (Event S.Load)) →
         IsPast {Node = S.Node} {Lan = S.Lan} {Load = S.Load} {Text = S.Text} (opening nodes lans events) }
 {}
 

@@ -6,4 +6,4 @@ returns-clause-sound g c sim nodes lans events is =
     opening-sound (g.S.Simulation.rules sim) (g.S.Simulation.health sim) nodes lans events is
 
 pub returns-clause-past : goal.returns-clause-past
-returns-clause-past g c sim nodes lans events is = opening-past nodes lans events
+returns-clause-past g c nodes lans events = opening-past nodes lans events
