@@ -1,0 +1,5 @@
+pub mod Walking
+pub mod Lending
+pub mod Reading
+pub mod OneField
+pub mod Crosses

@@ -1,0 +1,35 @@
+-- `nothing` needs nothing of the loan that it is asked of. Assumes `Logic`.
+use Rattle.byte_block.proofs.Walking.{[], ◌∷◌, ◌++◌, List, refl, proved_at, none, two, none_made, two_made, Val, vptr, WpFn, tables, ‵, raw, ◌⊛◌, prop, ◌$◌, ◌∵◌, !, qed, done, move, keep, drop, use0, split, fsplit, fjoin, feq_l, regoal, suffices, agg, enter, no_more, and_then, returns, alloc_all, pass_all, free_all, look_at, get, sets, yes, owns, Ref, types_at, alive, says, Stays, walk_of, stay_dropped, Goes-dropped, ends_at, all_spent}
+use Rattle.byte_block.specs.Memory.{loan_owns, shown_owns}
+use Rattle.byte_block.proofs.Reading.{shown_none, loan_none}
+use Rattle.byte_block.specs.contracts.memory.Loan as Loan
+use Rattle.byte_block.specs.contracts.memory.Shown as Shown
+use Rattle.byte_block.specs.contracts.memory.Loan.nothing as f
+use Rattle.byte_block.proofs.memory.Loan.nothing.Statement.{statement}
+use Rattle.byte_block.proofs.memory.Loan.nothing.Code as code
+
+abbrev fate : Stays f.ended.signature.params f.ended.kept
+fate = (stay_dropped (Ref 0 tt Loan.the_row tt) yes, tt)
+
+pub nothing_spec : {M : Type 1} → statement M
+nothing_spec 𝓤 𝓛 𝓜 𝓡 wired =
+    let said = f.clauses 𝓛 𝓜.mem 𝓡.returns in
+    let 𝓣 = tables 𝓤 𝓛.H 𝓜 𝓡 𝓡.env in
+    let self_goes = Goes-dropped 𝓛 1 (Ref 0 tt Loan.the_row tt) yes (λ κs x w. refl) in
+    proved_at 𝓛 f.ended fate said 𝓜 𝓡 (self_goes, tt) f.Key.name code.function (code.unfolded 𝓤 𝓛.H 𝓜 𝓡 wired) (λ call are.
+    let self = call.0.3.0 in let l = self.now in let words = call.0.4 in
+    let no_loan : Loan.the_row.Denot = record { life = l.life; names = l.names; base = l.base; at = l.at; items = []; placed = l.placed } in
+    let none_shown : Shown.the_row.Denot = record { life = l.life; base = l.base; at = l.at; items = []; placed = l.placed } in
+    qed 𝓛 ((raw (alive 𝓛 f.signature call.0.0 call.0.1) ⊛ ‵ (owns (types_at f.signature.params call.0.0) call.0.3 words)) ∷ raw ((said call.0.0 call.0.3).requires call.1) ∷ []) ∵
+    keep ! (0 ∷ []) $ split ! $ move ! (1 ∷ []) $ fsplit ! $ fsplit ! $ feq_l ! (λ self_is. drop ! $ drop ! $
+    use0 𝓛 (‵ (shown_owns l.life l.base l.at [])) (shown_none 𝓛 l.life l.base l.at) $ none_made ! $ fjoin ! $
+    use0 𝓛 (‵ (loan_owns l.life l.names l.base l.at [])) (loan_none 𝓛 l.life l.names l.base l.at) $ none_made ! $ fjoin ! $
+    two_made ! Loan.the_row Shown.the_row no_loan none_shown none none $
+    regoal ! (λ (us : List Val). prop (WpFn 𝓤 𝓛.H 𝓣.C 𝓣.Λ code.function us ((walk_of 𝓛 f.ended fate said).post call))) (λ i. self_is i ++ []) refl $
+    enter ! _ _ _ (vptr self.ref_ptr.0 self.ref_ptr.1 ∷ []) _ $ alloc_all ! (λ at. pass_all ! refl ((tt, tt), tt) $
+    sets ! (agg ! (no_more !)) refl (tt, tt) $ sets ! (agg ! (no_more !)) refl (tt, tt) $
+    sets ! (agg ! (and_then ! (get ! refl) (and_then ! (get ! refl) (no_more !)))) refl (tt, (tt, (tt, tt))) $
+    returns ! (look_at ! 0 refl) $ free_all ! refl $
+    suffices ! _ (ends_at 𝓛 f.ended fate said call (two none none) (no_loan, none_shown) (tt, tt) (tt, tt)) $
+    says ! (record { life = refl; names = refl; base = refl; at = refl; items = refl }, record { life = refl; base = refl; at = refl; items = refl }) $
+    all_spent ! 1 $ move ! (2 ∷ 0 ∷ 1 ∷ []) $ done !)))

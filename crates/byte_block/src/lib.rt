@@ -1,0 +1,20 @@
+//! The bytes of one block of memory, in ranges that several owners hold at once.
+//!
+//! ```text
+//! 0            8            12           16
+//! | FreeRange  | FrozenRange | FreeRange |    one block: free places may be filled at either side
+//! ```
+//!
+//! A `FreeRange` may be filled, and no other range has its places. A `FrozenRange` may be read and
+//! shared, and its bytes never change. The block is freed when its last range is dropped. Only a new
+//! block and one owner more of a block (`make`, `split_at`, `share`) can want for memory.
+#![tactic(auto)]
+
+mod free;
+mod frozen;
+mod memory;
+#[cfg(test)]
+mod tests;
+
+pub use free::{FreeRange, RawBytes};
+pub use frozen::FrozenRange;

@@ -1,0 +1,180 @@
+// The memory of a block, lent byte by byte. What takes no bytes here is ghost state.
+ghost use Rattle.std.specs.Prelude.{◌≡◌, ℕ, ◌+◌, ◌^◌, ◌<◌, ◌≤◌, List, [], ◌∷◌, ◌++◌, length, take, drop};
+ghost use base.Fml.{ftrue, flft};
+ghost use denote.RawPtr.{Ptr, ◌+ₚ◌};
+ghost use denote.Sharing.{one};
+ghost use Rattle.bytes.specs.Ownership.{Extent, extent_code, IsPlaced, block_owns};
+ghost use Rattle.byte_block.specs.Memory.{emptied_owns, loan_owns, shown_owns};
+
+use std::alloc::Global;
+use std::marker::{Model, Move, Owns};
+use std::slice;
+
+// A `Vec` whose elements are out on loan.
+pub(crate) struct Emptied {
+    vec: Vec<u8, Global>,
+}
+
+impl Owns for Emptied {
+    ghost Value = { Extent };
+
+    ghost coded = { extent_code };
+
+    ghost shr_at = { λ _ _ _. ftrue };
+}
+
+impl Move for Emptied {
+    ghost own_val = { emptied_owns };
+}
+
+// The memory of a block, whose bytes are lent until the lifetime `life` ends. A `&` to it shows that
+// `life` lasts.
+pub(crate) struct Memory {
+    emptied: Emptied,
+    ghost life: { ℕ },
+    ghost names: { List ℕ },
+    ghost named: { length names ≡ emptied.len },
+    ghost placed: { IsPlaced emptied.ptr },
+}
+
+impl Model for Memory {
+    ghost also_owns = { λ m. block_owns m.life m.names m.emptied.ptr };
+
+    ghost also_shares = { λ m _. one (λ q. flft (m.life ∷ []) q) };
+}
+
+// The right to write the bytes that lie `at` bytes into the block at `base`.
+#[derive(Drop)]
+pub(crate) struct Loan {
+    ghost life: { ℕ },
+    ghost names: { List ℕ },
+    ghost base: { Ptr },
+    ghost at: { ℕ },
+    ghost items: { List ℕ },
+    ghost placed: { IsPlaced base },
+}
+
+impl Model for Loan {
+    ghost also_owns = { λ l. loan_owns l.life l.names l.base l.at l.items };
+}
+
+// The right to read `items`, which lie `at` bytes into the block at `base`, while `life` lasts. They
+// stay as they are.
+#[derive(Drop)]
+pub(crate) struct Shown {
+    ghost life: { ℕ },
+    ghost base: { Ptr },
+    ghost at: { ℕ },
+    ghost items: { List ℕ },
+    ghost placed: { IsPlaced base },
+}
+
+impl Model for Shown {
+    ghost also_owns = { λ s. shown_owns s.life s.base s.at s.items };
+
+    ghost also_shares = { λ s _ _. shown_owns s.life s.base s.at s.items };
+}
+
+// A `&` to it shows nothing.
+unsafe impl Send for Emptied {}
+
+unsafe impl Sync for Emptied {}
+
+// A `&` to it shows only that a lifetime lasts.
+unsafe impl Send for Memory {}
+
+unsafe impl Sync for Memory {}
+
+impl Memory {
+    ghost use Rattle.byte_block.specs.Loaned.{LoanOf};
+
+    // Lends all the bytes of a `Vec`.
+    pub(crate) fn lend(vec: Vec<u8, Global>) -> (Memory, Loan)
+        requires { 0 < vec.len }
+        ensures { (result.0.emptied ≡ record { ptr = vec.ptr; len = vec.len })
+            × LoanOf result.1 result.0.life result.0.names vec.ptr 0 vec.items }
+    {
+        (
+            Memory {
+                emptied: Emptied { vec },
+            },
+            Loan {},
+        )
+    }
+
+    // Ends all loans.
+    pub(crate) fn regain(self) -> Vec<u8, Global>
+        ensures { result.len ≡ self.emptied.len }
+    {
+        let Memory { emptied } = self;
+        let Emptied { vec } = emptied;
+        vec
+    }
+}
+
+impl Drop for Memory {
+    fn drop(self) {
+        drop(self.regain());
+    }
+}
+
+impl Loan {
+    ghost use Rattle.byte_block.specs.Loaned.{LoanOf, ShownAs};
+
+    // A loan of no bytes, and the right to read none.
+    pub(crate) fn nothing(&self) -> (Loan, Shown)
+        ensures { LoanOf result.0 self.now.life self.now.names self.now.base self.now.at []
+            × ShownAs result.1 self.now.life self.now.base self.now.at [] }
+    {
+        (Loan {}, Shown {})
+    }
+
+    pub(crate) fn cut(self, mid: usize) -> (Loan, Loan)
+        requires { mid ≤ length self.items }
+        ensures { LoanOf result.0 self.life self.names self.base self.at (take mid self.items)
+            × LoanOf result.1 self.life self.names self.base (self.at + mid) (drop mid self.items) }
+    {
+        let Loan {} = self;
+        (Loan {}, Loan {})
+    }
+
+    // Writes the one byte, which stays from here on.
+    pub(crate) fn put(self, memory: &Memory, ptr: *mut u8, byte: u8) -> Shown
+        requires { (self.life ≡ memory.now.life) × (ptr ≡ self.base +ₚ self.at)
+            × (length self.items ≡ 1) }
+        ensures { ShownAs result self.life self.base self.at (byte ∷ []) }
+    {
+        let Loan {} = self;
+        unsafe { *ptr = byte };
+        Shown {}
+    }
+}
+
+impl Shown {
+    ghost use Rattle.byte_block.specs.Loaned.{ShownAs};
+
+    pub(crate) fn again(&self) -> Shown
+        ensures { result ≡ self.now }
+    {
+        Shown {}
+    }
+
+    // The bytes of both, which lie side by side.
+    pub(crate) fn join(self, next: Shown) -> Shown
+        requires { (next.life ≡ self.life) × (next.base ≡ self.base)
+            × (next.at ≡ self.at + length self.items) }
+        ensures { ShownAs result self.life self.base self.at (self.items ++ next.items) }
+    {
+        let Shown {} = self;
+        let Shown {} = next;
+        Shown {}
+    }
+
+    pub(crate) fn read<'a>(&'a self, memory: &'a Memory, ptr: *const u8, len: usize) -> &'a [u8]
+        requires { (self.now.life ≡ memory.now.life) × (ptr ≡ self.now.base +ₚ self.now.at)
+            × (len ≡ length self.now.items) × (len < 2 ^ 63) }
+        ensures { result.now ≡ self.now.items }
+    {
+        unsafe { slice::from_raw_parts(ptr, len) }
+    }
+}
