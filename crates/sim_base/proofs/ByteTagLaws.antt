@@ -104,3 +104,11 @@ pub All-shift : (m n : ℕ) (ts : List ByteTag) → All (IsTagWithin n) ts → A
 All-shift m n ts within =
     All-map (IsTagWithin (m + n)) (moved_up m) ts
     (All-weaker (IsTagWithin n) (λ t. IsTagWithin (m + n) (moved_up m t)) (λ t h. (omega (arith, h.0), omega (arith, h.1))) ts within)
+
+-- tags on n bytes have no part from n on
+pub clip-past : (n a b : ℕ) (ts : List ByteTag) → All (IsTagWithin n) ts → n ≤ a → clip a b ts ≡ []
+clip-past n a b [] within past = refl
+clip-past n a b (t ∷ ts) within past =
+    let here = All-head (IsTagWithin n) t ts within in
+    filter-fails covers_a_byte (part_within a b t) (map (part_within a b) ts) (le-ltb _ _ (omega (arith, here.1)))
+    ∙ clip-past n a b ts (All-tail (IsTagWithin n) t ts within) past

@@ -1,15 +1,48 @@
 -- Laws of joined items.
-use Rattle.std.proofs.Common.{◌≡◌, ◌+◌, ◌-◌, ◌==◌, ◌&&◌, true, false, List, [], ◌∷◌, ◌++◌, refl, ap, ◌∙◌, arith}
+use Rattle.std.proofs.Common.{ℕ, zero, suc, ◌≡◌, ◌+◌, ◌-◌, ◌==◌, ◌&&◌, true, false, List, [], ◌∷◌, ◌++◌, refl, sym, ap, ◌∙◌, arith}
 use Rattle.std.specs.List.{All}
 use Rattle.std.proofs.lemmas.List.Elements.{All-head, All-tail, All-cons}
 use Rattle.std.proofs.lemmas.Bool.{cond_both, cond-true, cond-false, and_parts, eqb-true}
 use Rattle.sim_base.specs.declared.item.Item.{Item}
-use Rattle.sim_base.specs.Kind.{same_kind}
+use Rattle.sim_base.specs.declared.item.Kind.{Kind}
+use Rattle.sim_base.specs.declared.item.Kind.TheVariants.{Ppp, Ethernet, Trailer, Arp, Ipv4, Icmp, Udp, Tcp, Payload, Pad}
+use Rattle.sim_base.specs.Kind.{kind_number, same_kind}
 use Rattle.sim_base.specs.Items.{left, IsLeft, total_left, join_items, goes_on}
 use Rattle.sim_base.proofs.ItemLaws.{total_left-cons}
 
+-- the kind with this number
+kind_at : ℕ → Kind
+kind_at zero = Ppp
+kind_at (suc zero) = Ethernet
+kind_at (suc (suc zero)) = Trailer
+kind_at (suc (suc (suc zero))) = Arp
+kind_at (suc (suc (suc (suc zero)))) = Ipv4
+kind_at (suc (suc (suc (suc (suc zero))))) = Icmp
+kind_at (suc (suc (suc (suc (suc (suc zero)))))) = Udp
+kind_at (suc (suc (suc (suc (suc (suc (suc zero))))))) = Tcp
+kind_at (suc (suc (suc (suc (suc (suc (suc (suc zero)))))))) = Payload
+kind_at (suc (suc (suc (suc (suc (suc (suc (suc (suc n))))))))) = Pad
+
+kind_at-number : (k : Kind) → kind_at (kind_number k) ≡ k
+unfolding kind_at
+kind_at-number Ppp = refl
+kind_at-number Ethernet = refl
+kind_at-number Trailer = refl
+kind_at-number Arp = refl
+kind_at-number Ipv4 = refl
+kind_at-number Icmp = refl
+kind_at-number Udp = refl
+kind_at-number Tcp = refl
+kind_at-number Payload = refl
+kind_at-number Pad = refl
+
+same_kind-true : (a b : Kind) → same_kind a b ≡ true → a ≡ b
+same_kind-true a b h =
+    sym (kind_at-number a) ∙ ap kind_at (eqb-true (kind_number a) (kind_number b) h) ∙ kind_at-number b
+
 -- two items that are halves of one part
 pub record GoesOn (i j : Item) : Type 0 where
+  pub kind : i.kind ≡ j.kind
   pub size : i.size ≡ j.size
   pub place : i.size - i.cut_back ≡ j.cut_front
 
@@ -17,12 +50,12 @@ pub goes_on-true : (i j : Item) → goes_on i j ≡ true → GoesOn i j
 goes_on-true i j h =
     let both = and_parts (same_kind i.kind j.kind) (i.size == j.size && i.size - i.cut_back == j.cut_front) h in
     let numbers = and_parts (i.size == j.size) (i.size - i.cut_back == j.cut_front) both.1 in
-    record { size = eqb-true i.size j.size numbers.0; place = eqb-true (i.size - i.cut_back) j.cut_front numbers.1 }
+    record { kind = same_kind-true i.kind j.kind both.0; size = eqb-true i.size j.size numbers.0; place = eqb-true (i.size - i.cut_back) j.cut_front numbers.1 }
 
-total_left-one : (i : Item) → total_left (i ∷ []) ≡ left i
+pub total_left-one : (i : Item) → total_left (i ∷ []) ≡ left i
 total_left-one i = omega (arith, total_left-cons i [])
 
-left-joined : (i j : Item) → IsLeft i → IsLeft j → GoesOn i j → left (record i { cut_back = j.cut_back }) ≡ left i + left j
+pub left-joined : (i j : Item) → IsLeft i → IsLeft j → GoesOn i j → left (record i { cut_back = j.cut_back }) ≡ left i + left j
 left-joined i j here there on = omega (arith, here, there, on.size, on.place)
 
 IsLeft-joined : (i j : Item) → IsLeft i → IsLeft j → GoesOn i j → IsLeft (record i { cut_back = j.cut_back })

@@ -2,7 +2,10 @@ pub mod KeyLaws
 pub mod ListLaws
 pub mod ByteTagLaws
 pub mod ItemLaws
+pub mod CutItemLaws
 pub mod JoinLaws
+pub mod ApartLaws
 pub mod PacketTagLaws
 pub mod PacketLaws
+pub mod CutJoinLaws
 pub mod PacketMade

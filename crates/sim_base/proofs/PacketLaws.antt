@@ -21,7 +21,8 @@ use Rattle.sim_base.specs.Packet.{Packet, IsPacket, len, longest, from_bytes, ze
 use Rattle.sim_base.proofs.ByteTagLaws.{shift-zero, clip-all, clip-shift, clip-clip, All-clip, All-longer, All-shift}
 use Rattle.sim_base.proofs.ItemLaws.{whole-some, total_left-whole, total_left-append, All-whole, cut_items-append, cut_items-all, cut_items-none, cut_items-end, All-cut_items, total_left-cut_items, cut_items-cut_items}
 use Rattle.sim_base.proofs.JoinLaws.{total_left-join_items, All-join_items}
-use Rattle.sim_base.proofs.PacketTagLaws.{HaveDistinctTags-add_tag, HaveDistinctTags-replace_tag, HaveDistinctTags-remove_tag}
+use Rattle.sim_base.proofs.ApartLaws.{StandApart-whole, StandApart-whole_front, StandApart-whole_back, StandApart-cut_items, StandApart-join_items}
+use Rattle.sim_base.proofs.PacketTagLaws.{HaveDistinctTags-add_tag, HaveDistinctTags-replace_tag, HaveDistinctTags-remove_tag, remove_tag-none}
 
 -- packets with the same parts are the same
 pub same_packet : (p q : Packet) → p.uid ≡ q.uid → p.bytes ≡ q.bytes → p.byte_tags ≡ q.byte_tags → p.tags ≡ q.tags → p.items ≡ q.items → p ≡ q
@@ -85,6 +86,7 @@ IsPacket-from_bytes uid bytes small =
       byte_tags_within = All-nil _;
       tags_distinct = λ i j d order in_range. absurd (omega arith);
       items_left = All-whole Payload (length bytes);
+      items_apart = StandApart-whole Payload (length bytes);
       items_cover = total_left-whole Payload (length bytes);
     }
 
@@ -102,6 +104,7 @@ IsPacket-push_front kind bytes p is small =
       byte_tags_within = subst (λ (m : ℕ). All (on_bytes.IsTagWithin m) (on_bytes.shift n p.byte_tags)) (sym total) (All-shift n (len p) p.byte_tags is.byte_tags_within);
       tags_distinct = is.tags_distinct;
       items_left = All-append parts.IsLeft (parts.whole kind n) p.items (All-whole kind n) is.items_left;
+      items_apart = StandApart-whole_front kind n p.items is.items_left is.items_apart;
       items_cover = total_left-append (parts.whole kind n) p.items ∙ omega (arith, total_left-whole kind n, is.items_cover);
     }
 
@@ -115,6 +118,7 @@ IsPacket-push_back kind bytes p is small =
       byte_tags_within = All-longer (len p) (length (p.bytes ++ bytes)) p.byte_tags (omega arith) is.byte_tags_within;
       tags_distinct = is.tags_distinct;
       items_left = All-append parts.IsLeft p.items (parts.whole kind n) is.items_left (All-whole kind n);
+      items_apart = StandApart-whole_back kind n p.items is.items_left is.items_apart;
       items_cover = total_left-append p.items (parts.whole kind n) ∙ omega (arith, total_left-whole kind n, is.items_cover);
     }
 
@@ -127,6 +131,7 @@ IsPacket-cut a b p is order inside =
       byte_tags_within = All-longer (b - a) (length (slice_range p.bytes a b)) _ (omega arith) (All-clip a b p.byte_tags);
       tags_distinct = is.tags_distinct;
       items_left = All-cut_items a b p.items;
+      items_apart = StandApart-cut_items a b p.items is.items_left is.items_apart;
       items_cover = total_left-cut_items a b p.items order ∙ omega (arith, is.items_cover);
     }
 
@@ -143,6 +148,7 @@ IsPacket-join p q is also small =
           (All-longer (len p + len q) n (on_bytes.shift (len p) q.byte_tags) (omega arith) (All-shift (len p) (len q) q.byte_tags also.byte_tags_within));
       tags_distinct = is.tags_distinct;
       items_left = All-join_items p.items q.items is.items_left also.items_left;
+      items_apart = StandApart-join_items p.items q.items is.items_apart also.items_apart;
       items_cover = total_left-join_items p.items q.items is.items_left also.items_left ∙ omega (arith, is.items_cover, also.items_cover);
     }
 
@@ -164,6 +170,7 @@ IsPacket-add_byte_tag tag value p is =
       byte_tags_within = All-append (on_bytes.IsTagWithin (len p)) p.byte_tags (on_bytes.tag_over (len p) tag value) is.byte_tags_within (All-tag_over (len p) tag value);
       tags_distinct = is.tags_distinct;
       items_left = is.items_left;
+      items_apart = is.items_apart;
       items_cover = is.items_cover;
     }
 
@@ -175,6 +182,7 @@ IsPacket-add_tag tag value p is none =
       byte_tags_within = is.byte_tags_within;
       tags_distinct = HaveDistinctTags-add_tag tag value p.tags none is.tags_distinct;
       items_left = is.items_left;
+      items_apart = is.items_apart;
       items_cover = is.items_cover;
     }
 
@@ -186,6 +194,7 @@ IsPacket-replace_tag tag value p is =
       byte_tags_within = is.byte_tags_within;
       tags_distinct = HaveDistinctTags-replace_tag tag value p.tags is.tags_distinct;
       items_left = is.items_left;
+      items_apart = is.items_apart;
       items_cover = is.items_cover;
     }
 
@@ -197,6 +206,7 @@ IsPacket-remove_tag tag p is =
       byte_tags_within = is.byte_tags_within;
       tags_distinct = HaveDistinctTags-remove_tag tag p.tags is.tags_distinct;
       items_left = is.items_left;
+      items_apart = is.items_apart;
       items_cover = is.items_cover;
     }
 
@@ -342,3 +352,8 @@ peek-push_front kind bytes p =
     let same : length bytes - 0 ≡ length bytes = omega arith in
     ap (λ xs. slice_range xs 0 (length bytes)) (bytes-push_front kind bytes p)
     ∙ ap (λ n. take n (bytes ++ p.bytes)) same ∙ take_at bytes p.bytes (length bytes) refl
+
+-- where no tag has this number, the packet stays as it is
+pub remove_tag-absent : (tag : ℕ) (p : Packet) → on_packets.find_tag tag p.tags ≡ None → remove_tag tag p ≡ p
+unfolding remove_tag
+remove_tag-absent tag p none = same_packet _ p refl refl refl (remove_tag-none tag p.tags none) refl

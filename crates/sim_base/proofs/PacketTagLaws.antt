@@ -1,11 +1,13 @@
 -- Laws of tags on a whole packet.
-use Rattle.std.proofs.Common.{ℕ, suc, ◌≡◌, ◌≢◌, List, [], ◌∷◌, Some, None, sym, ◌∙◌, subst, arith, ⊎_elim}
+use Rattle.std.proofs.Common.{ℕ, suc, ◌≡◌, ◌≢◌, List, [], ◌∷◌, Some, None, refl, sym, ap, ◌∙◌, subst, arith, ⊎_elim}
 use Rattle.std.specs.List.{All}
+use Rattle.std.specs.Prelude.{not}
 use Rattle.std.proofs.lemmas.List.Elements.{All-head, All-tail, All-nil, All-cons}
 use Rattle.std.proofs.lemmas.List.Quantifiers.{all_pairs_push}
 use Rattle.std.proofs.lemmas.List.Kept.{AllPairs-cons, AllPairs-filter}
 use Rattle.std.proofs.lemmas.Bool.{cases_eq, eq-eqb, ne_eqb, cond-true, cond-false}
 use Rattle.sim_base.specs.declared.tags.PacketTag.{PacketTag}
+use Rattle.sim_base.proofs.ListLaws.{filter-passes}
 use Rattle.sim_base.specs.PacketTags.{find_tag, add_tag, replace_tag, remove_tag, has_other_tag, HaveDistinctTags}
 
 abbrev pub Differs : PacketTag → PacketTag → Type 0
@@ -71,4 +73,15 @@ HaveDistinctTags-replace_tag tag value (t ∷ ts) distinct =
     subst HaveDistinctTags (sym (cond-false _ (new ∷ ts) (t ∷ replace_tag tag value ts) (ne_eqb t.tag tag there)))
     (AllPairs-cons Differs t (replace_tag tag value ts) (Differs-replace_tag t tag value ts there others)
     (HaveDistinctTags-replace_tag tag value ts later)))
+    (cases_eq t.tag tag)
+
+-- where no tag has this number, none goes
+pub remove_tag-none : (tag : ℕ) (ts : List PacketTag) → find_tag tag ts ≡ None → remove_tag tag ts ≡ ts
+remove_tag-none tag [] none = refl
+remove_tag-none tag (t ∷ ts) none =
+    ⊎_elim
+    (λ (here : t.tag ≡ tag). let found = find_tag-here tag t ts here in absurd (cc))
+    (λ (there : t.tag ≡ tag → ⊥).
+    filter-passes (has_other_tag tag) t ts (ap not (ne_eqb t.tag tag there))
+    ∙ ap (λ xs. t ∷ xs) (remove_tag-none tag ts (sym (find_tag-there tag t ts there) ∙ none)))
     (cases_eq t.tag tag)

@@ -1,5 +1,5 @@
 -- The parts that a packet is made of: what becomes of them where bytes are cut and packets are joined.
-use Rattle.std.specs.Prelude.{ℕ, ◌+◌, ◌-◌, ◌<◌, ◌==◌, ◌&&◌, min, nat_lt, Bool, false, if◌then◌else◌, List, [], ◌∷◌, length, sum_by, filter, slice_get}
+use Rattle.std.specs.Prelude.{ℕ, ◌≡◌, ◌+◌, ◌-◌, ◌<◌, ◌==◌, ◌&&◌, min, nat_lt, Bool, false, if◌then◌else◌, List, [], ◌∷◌, length, sum_by, filter, slice_get}
 use Rattle.std.specs.Option.{option_map_or}
 use Rattle.sim_base.specs.declared.item.Item.{Item}
 use Rattle.sim_base.specs.declared.item.Kind.{Kind}
@@ -60,3 +60,9 @@ join_items [] later = later
 join_items (i ∷ []) [] = i ∷ []
 join_items (i ∷ []) (j ∷ later) = if goes_on i j then record i { cut_back = j.cut_back } ∷ later else i ∷ j ∷ later
 join_items (i ∷ k ∷ items) later = i ∷ join_items (k ∷ items) later
+
+-- no item goes on in the next one
+abbrev pub StandApart : List Item → Type 0
+StandApart [] = Unit
+StandApart (i ∷ []) = Unit
+StandApart (i ∷ j ∷ items) = (goes_on i j ≡ false) × StandApart (j ∷ items)

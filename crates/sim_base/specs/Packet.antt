@@ -29,6 +29,7 @@ pub record IsPacket (p : Packet) : Type 0 where
   pub byte_tags_within : All (on_bytes.IsTagWithin (len p)) p.byte_tags
   pub tags_distinct : on_packets.HaveDistinctTags p.tags
   pub items_left : All parts.IsLeft p.items
+  pub items_apart : parts.StandApart p.items
   pub items_cover : parts.total_left p.items ≡ len p
 
 unfoldable pub from_bytes : Uid → List ℕ → Packet

@@ -4,6 +4,7 @@
 
 mod item;
 mod key;
+mod laws;
 mod memory;
 mod numbers;
 mod sequence;
@@ -12,6 +13,7 @@ mod time;
 
 pub use item::{Item, Kind};
 pub use key::{Key, NodeId};
+pub use laws::{calls_are_undone, cuts_and_joins_are_undone, packets_stay_packets};
 pub use memory::NoMemory;
 pub use numbers::{Numbers, Uid};
 pub use sequence::Sequence;
@@ -19,11 +21,4 @@ pub use tags::{Absent, ByteTag, PacketTag, TagStop};
 pub use time::{Rate, Time};
 
 #[cfg(test)]
-mod tests {
-    use super::*;
-
-    #[test]
-    fn a_frame_takes_whole_nanoseconds(rt: HostRuntime) {
-        assert_eq!(rt; Rate(3).frame_time(1), Time(2_666_666_667));
-    }
-}
+mod tests;
