@@ -1,10 +1,10 @@
 -- A file that was made and grows.
-use Rattle.std.proofs.Common.{◌≡◌, ℕ, zero, suc, ◌+◌, List, [], ◌∷◌, ◌++◌, length, take, drop, Option, Some, None, Result, Ok, Err, refl, ap, sym, ◌∙◌, append_assoc, append-nil, subst, arith}
+use Rattle.std.proofs.Common.{◌≡◌, ℕ, List, [], ◌∷◌, ◌++◌, length, take, drop, Option, Some, None, Ok, Err, refl, ap, sym, ◌∙◌, append_assoc, append-nil, subst}
 use Rattle.std.proofs.lemmas.List.{take-append-drop}
 use Rattle.outside.specs.declared.store.File.{File}
 use Rattle.outside.specs.declared.store.StoreStop.{StoreStop}
 use Rattle.outside.specs.Store.{append_to, Creates}
-use Rattle.sim_run.specs.Output.{IsPrefix, HasFiles, HasFilePrefixes, AreCut}
+use Rattle.sim_run.specs.Output.{HasFiles, HasFilePrefixes}
 use Rattle.sim_run.specs.Growth.{HasGrown, HasGrownPartly, HasNewFile}
 
 append_to-last : (files : List File) (file : File) (piece : List ℕ)

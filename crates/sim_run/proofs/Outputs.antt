@@ -1,12 +1,12 @@
 -- Whole writes, piece by piece.
-use Rattle.std.proofs.Common.{◌≡◌, ℕ, zero, suc, ◌+◌, ◌-◌, ◌≤◌, List, [], ◌∷◌, ◌++◌, length, take, drop, Option, Some, None, Result, Ok, Err, refl, ap, sym, ◌∙◌, append_assoc, append-nil, arith}
+use Rattle.std.proofs.Common.{◌≡◌, ℕ, zero, suc, ◌+◌, List, [], ◌∷◌, ◌++◌, take, drop, Option, Some, None, Ok, Err, refl, ap, sym, ◌∙◌, append_assoc, append-nil, arith}
 use Rattle.std.proofs.lemmas.List.{take-append-drop, drop-take, take-take}
 use Rattle.outside.specs.declared.store.File.{File}
 use Rattle.outside.specs.declared.store.StoreStop.{StoreStop}
 use Rattle.outside.specs.Store.{append_to, Grows}
 use Rattle.outside.specs.Streams.{Writes}
 use Rattle.outside.proofs.Files.{append_to-none}
-use Rattle.sim_run.specs.Output.{IsPrefix, HasGot, HasGotPrefix}
+use Rattle.sim_run.specs.Output.{HasGot, HasGotPrefix}
 use Rattle.sim_run.specs.Growth.{HasGrown, HasGrownPartly}
 
 take_twice : (at n : ℕ) (xs : List ℕ) → take at (take (at + n) xs) ≡ take at xs

@@ -1,11 +1,11 @@
 -- The scenario of what was read is that of the whole input.
-use Rattle.std.proofs.Common.{◌≡◌, ℕ, ◌+◌, ◌≤◌, ◌<◌, Bool, true, false, nat_lt, List, [], ◌++◌, length, length-append, Option, Some, None, refl, ap, sym, ◌∙◌, append-nil, subst, arith, inl, inr, Result, IfSome}
-use Rattle.std.proofs.lemmas.Bool.Decides.{nat_tests, leb_tells}
+use Rattle.std.proofs.Common.{◌≡◌, ℕ, ◌+◌, ◌≤◌, ◌<◌, List, [], ◌++◌, length, length-append, Option, Some, None, ap, sym, ◌∙◌, append-nil, subst, arith, inl, inr, Result, IfSome}
+use Rattle.std.proofs.lemmas.Bool.Decides.{leb_tells}
 use Rattle.std.proofs.lemmas.Bool.{le-leb}
 use Rattle.path_scenario.specs.declared.scenario.Scenario.{Scenario}
 use Rattle.path_form.specs.declared.refusal.Refusal.{Refusal}
-use Rattle.path_form.specs.Form.{scenario_of, scenario_limit, read_document, document_of}
-use Rattle.sim_run.specs.Input.{HasRead, HasReadAll, IsAtEnd}
+use Rattle.path_form.specs.Form.{scenario_of, scenario_limit}
+use Rattle.sim_run.specs.Input.{HasReadAll}
 
 too_long : (input bytes : List ℕ) → scenario_limit < length input → scenario_limit < length bytes → scenario_of input ≡ scenario_of bytes
 unfolding scenario_of

@@ -1,5 +1,5 @@
 -- The capture files of a run.
-use Rattle.std.specs.Prelude.{ℕ, Bool, ◌==◌, ◌&&◌, if◌then◌else◌, List, [], ◌∷◌, ◌++◌, codes}
+use Rattle.std.specs.Prelude.{ℕ, ◌==◌, ◌&&◌, if◌then◌else◌, List, [], ◌∷◌, ◌++◌, codes}
 use Rattle.std.specs.List.{flat_map}
 use Rattle.outside.specs.declared.store.File.{File}
 use Rattle.pcap_form.specs.Capture.{capture_head, captured_packet}

@@ -1,5 +1,5 @@
 -- The summary of a run.
-use Rattle.std.specs.Prelude.{ℕ, List, [], ◌∷◌, ◌++◌, codes, slice_get, Option, Some, None}
+use Rattle.std.specs.Prelude.{ℕ, List, [], ◌++◌, codes, slice_get, Option, Some, None}
 use Rattle.std.specs.Fmt.{decimal}
 use Rattle.path_kernel.specs.declared.node.Node.{Node}
 use Rattle.path_kernel.specs.World.{World}
