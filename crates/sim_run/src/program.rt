@@ -1,11 +1,12 @@
 //! The top call: the words, the source, the scenario, the run, in this order. The first that refuses
 //! decides the answer.
 
-ghost use Rattle.std.specs.Prelude.{◌≡◌, ◌≢◌, length, ◌≤◌, ◌⊎◌, ℕ, List, ◌++◌, Some, [], map, string_bytes, codes, IfErr, IfSome};
+ghost use Rattle.std.specs.Prelude.{◌≡◌, ◌≢◌, length, ◌≤◌, ◌⊎◌, ℕ, List, ◌++◌, Some, [], map, string_bytes, codes, Err, IfErr, IfSome};
 ghost use Rattle.outside.specs.Causes.{Rose};
 ghost use Rattle.path_form.specs.Form.{scenario_of, scenario_limit};
 ghost use Rattle.sim_run.specs.Output.{HasFiles, HasFilePrefixes, HasGot, HasGotPrefix};
 ghost use Rattle.sim_run.specs.Command.{command_of};
+ghost use Rattle.sim_run.specs.declared.command.WordFault.{WordFault};
 ghost use Rattle.sim_run.specs.Plain.{plain, run_of, IsAnswer, BeforeFiles};
 
 use crate::command::{Command, read_command};
@@ -30,6 +31,7 @@ pub fn run_program<S: Source, F: TraceStore, O: Sink>(
     // The answer is the plain program's, unless the outside or memory failed. A fault of the words comes first.
     ensures answer { IfSome (S.left source.old) (λ input. IsAnswer (plain (map string_bytes words.now) input).status result) }
     ensures words { IfErr (command_of (map string_bytes words.now)) (λ fault. (result ≡ Status.Words fault) × (source.new ≡ source.old)) }
+    ensures words_only { (fault : WordFault) → result ≡ Status.Words fault → command_of (map string_bytes words.now) ≡ Err fault }
 
     // With that answer, the files and the text are the plain program's, and what was read was the whole input.
     ensures files { IfSome (S.left source.old) (λ input. let p = plain (map string_bytes words.now) input in result ≡ p.status → HasFiles (F.files store.old) (F.files store.new) p.files) }
@@ -64,6 +66,7 @@ fn run_source<S: Source, F: TraceStore, O: Sink>(
 ) -> Status
     requires { (rest : List ℕ) → F.takes store.old (codes "trace" ++ rest) }
     ensures answer { IfSome (S.left source.old) (λ input. IsAnswer (run_of (scenario_of input)).status result) }
+    ensures no_words { (fault : WordFault) → result ≢ Status.Words fault }
     ensures untouched { BeforeFiles result ((store.new ≡ store.old) × (out.new ≡ out.old)) }
     ensures input { result ≡ Status.Done → IfSome (S.left source.old) (λ _. S.left source.new ≡ Some []) }
     ensures files { IfSome (S.left source.old) (λ input. result ≡ (run_of (scenario_of input)).status → HasFiles (F.files store.old) (F.files store.new) (run_of (scenario_of input)).files) }
@@ -91,6 +94,7 @@ fn run_bytes<F: TraceStore, O: Sink>(
 ) -> Status
     requires { (rest : List ℕ) → F.takes store.old (codes "trace" ++ rest) }
     ensures answer { IsAnswer (run_of (scenario_of bytes.now)).status result }
+    ensures no_words { (fault : WordFault) → result ≢ Status.Words fault }
     ensures no_read_fault { result ≢ Status.ReadFault }
     ensures untouched { BeforeFiles result ((store.new ≡ store.old) × (out.new ≡ out.old)) }
     ensures short { result ≡ Status.Done → length bytes.now ≤ scenario_limit }
