@@ -1,0 +1,10 @@
+pub mod Arrays
+pub mod Steps
+pub mod TableSteps
+pub mod HeldKeys
+pub mod BytesGive
+pub mod EndsPast
+pub mod FoundLaws
+pub mod LossSteps
+pub mod Counted
+pub mod AnswerSteps

@@ -1,0 +1,14 @@
+pub mod Checks
+pub mod Address
+pub mod Forms
+pub mod Rows
+pub mod Coded
+pub mod Values
+pub mod Networks
+pub mod Tables
+pub mod Walk
+pub mod Across
+pub mod Reading
+pub mod Answers
+pub mod Lookups
+pub mod Limits
