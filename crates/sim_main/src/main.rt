@@ -5,6 +5,7 @@
 
 use outside::{FolderStore, StdinSource, StdoutSink};
 use sim_run::{Refusal, Status, WordCode, WordFault, run_program};
+use std::fs::File;
 use std::process::ExitCode;
 use std::{env, io};
 
@@ -106,8 +107,19 @@ fn exit_code(status: Status) -> u8 {
     }
 }
 
+/// Takes a descriptor that is free. Where the process was started with a closed standard stream, this
+/// stands in its place, so that no file of the run does: reading it gives nothing, and writing fails.
+fn held_descriptor(rt: &HostRuntime) -> io::Result<File> {
+    File::open(rt, "/dev/null")
+}
+
 /// A fault line that can't be written is a write fault.
 fn main(rt: HostRuntime) -> ExitCode {
+    let _held = (
+        held_descriptor(&rt),
+        held_descriptor(&rt),
+        held_descriptor(&rt),
+    );
     let status = run(&rt);
     let status = match write_fault_line(&rt, status) {
         Ok(()) => status,
