@@ -1,0 +1,9 @@
+//! Tests of the whole program: over memory, and over the real folder, input and output.
+#![tactic(auto)]
+
+#[cfg(test)]
+mod adapters;
+#[cfg(test)]
+mod scenarios;
+#[cfg(test)]
+mod tests;

@@ -1,0 +1,153 @@
+//! Runs of the whole program over memory. The expected bytes are worked by hand.
+
+use crate::scenarios::{ECHO, TWO_DATAGRAMS};
+use outside::{MemSink, MemSource, MemStore};
+use sim_run::{Refusal, Status, WordCode, WordFault, run_program};
+use std::alloc::Global;
+use std::process::Abort;
+
+/// What the sink gets.
+const SUMMARY: &str = "events 6
+drops 0
+app 0 udp-sink sent 0 0 received 2 140
+app 1 udp-send sent 2 140 received 0 0
+";
+
+/// The head of the packet that is captured at 0 s.
+const FIRST_HEAD: [u8; 16] = [0, 0, 0, 0, 0, 0, 0, 0, 0x64, 0, 0, 0, 0x64, 0, 0, 0];
+
+/// The head of the packet that is captured at 0.001 s.
+const SECOND_HEAD: [u8; 16] = [
+    0, 0, 0, 0, 0x40, 0x42, 0x0f, 0, 0x64, 0, 0, 0, 0x64, 0, 0, 0,
+];
+
+/// The PPP, IPv4 and UDP headers of the first datagram.
+const FIRST_FRAME: [u8; 30] = [
+    0x00, 0x21, 0x45, 0x00, 0x00, 0x62, 0x00, 0x00, 0x00, 0x00, 0x40, 0x11, 0x64, 0x87, 0x0a, 0x01,
+    0x01, 0x01, 0x0a, 0x01, 0x01, 0x02, 0xc0, 0x01, 0x00, 0x09, 0x00, 0x4e, 0x29, 0x43,
+];
+
+/// The head of a capture file of a link.
+const FILE_HEAD: [u8; 24] = [
+    0x4d, 0x3c, 0xb2, 0xa1, 2, 0, 4, 0, 0, 0, 0, 0, 0, 0, 0, 0, 0xff, 0xff, 0, 0, 9, 0, 0, 0,
+];
+
+/// Asserts what a run with these words answers, where the listed calls of the source and of the store
+/// fail, and gives back the store and the sink.
+fn run(
+    rt: &impl Abort,
+    alloc: Global,
+    words: &[&str],
+    input: &[u8],
+    failing: (&[u32], &[u32]),
+    expected: Status,
+) -> (MemStore, MemSink) {
+    let mut texts = Vec::new(alloc);
+    for word in words {
+        let text = String::from_str(alloc, word).expect(rt, "memory");
+        texts.push(text).expect(rt, "memory");
+    }
+    let (reads, writes) = failing;
+    let mut source = MemSource::make(alloc, input, reads).expect(rt, "memory");
+    let mut store = MemStore::make(alloc, writes).expect(rt, "memory");
+    let mut sink = MemSink::make(alloc, &[]).expect(rt, "memory");
+    assert!(rt; texts.len() <= 1000);
+    let status = run_program(alloc, texts.as_slice(), &mut source, &mut store, &mut sink);
+    assert_eq!(rt; status, expected);
+    (store, sink)
+}
+
+/// Asserts that these words are refused.
+fn assert_refused(rt: &impl Abort, alloc: Global, words: &[&str], place: u32, code: WordCode) {
+    let fault = Status::Words(WordFault { place, code });
+    run(
+        rt,
+        alloc,
+        words,
+        TWO_DATAGRAMS.as_bytes(),
+        (&[], &[]),
+        fault,
+    );
+}
+
+/// Asserts that these bytes are refused, and that no file was made.
+fn assert_no_scenario(rt: &impl Abort, alloc: Global, input: &[u8], refusal: Refusal) {
+    let refused = Status::Scenario(refusal);
+    let (store, _sink) = run(rt, alloc, &["run"], input, (&[], &[]), refused);
+    assert!(rt; store.files().is_empty());
+}
+
+#[test]
+fn two_datagrams_are_captured_and_counted(rt: HostRuntime) {
+    let input = TWO_DATAGRAMS.as_bytes();
+    let (store, sink) = run(&rt, rt.alloc(), &["run"], input, (&[], &[]), Status::Done);
+    assert!(rt; store.files().len() == 1);
+    let file = &store.files()[0];
+    assert!(rt; file.name.as_slice() == b"trace-0-0.pcap".as_slice());
+    let bytes = file.bytes.as_slice();
+    assert!(rt; bytes.len() == 256);
+    assert!(rt; bytes.get(0..24) == Some(FILE_HEAD.as_slice()));
+    assert!(rt; bytes.get(24..40) == Some(FIRST_HEAD.as_slice()));
+    assert!(rt; bytes.get(40..70) == Some(FIRST_FRAME.as_slice()));
+    assert!(rt; bytes[70..140].iter().all(|b| *b == 0));
+    assert!(rt; bytes.get(140..156) == Some(SECOND_HEAD.as_slice()));
+    assert!(rt; bytes[163] == 1 && bytes[168] == 0x64 && bytes[169] == 0x86);
+    assert!(rt; sink.bytes() == SUMMARY.as_bytes());
+}
+
+#[test]
+fn a_failed_append_leaves_the_head_and_no_summary(rt: HostRuntime) {
+    let input = TWO_DATAGRAMS.as_bytes();
+    let failing = ([].as_slice(), [3].as_slice());
+    let (store, sink) = run(
+        &rt,
+        rt.alloc(),
+        &["run"],
+        input,
+        failing,
+        Status::WriteFault,
+    );
+    assert!(rt; store.files().len() == 1);
+    assert!(rt; store.files()[0].bytes.as_slice() == FILE_HEAD.as_slice());
+    assert!(rt; sink.bytes().is_empty());
+}
+
+#[test]
+fn a_failed_read_makes_no_file(rt: HostRuntime) {
+    let failing = ([2].as_slice(), [].as_slice());
+    let input = ECHO.as_bytes();
+    let (store, sink) = run(&rt, rt.alloc(), &["run"], input, failing, Status::ReadFault);
+    assert!(rt; store.files().is_empty() && sink.bytes().is_empty());
+}
+
+#[test]
+fn an_echo_server_is_not_built_yet(rt: HostRuntime) {
+    assert_no_scenario(&rt, rt.alloc(), ECHO.as_bytes(), Refusal::NotBuilt);
+}
+
+#[test]
+fn a_document_that_is_cut_off_is_no_toml(rt: HostRuntime) {
+    let input = b"format = 1\n[[link".as_slice();
+    assert_no_scenario(&rt, rt.alloc(), input, Refusal::NotToml);
+}
+
+#[test]
+fn one_byte_past_the_limit_is_too_long(rt: HostRuntime) {
+    let input = vec![in rt.alloc(); b'#'; 16_777_217].expect(&rt, "memory");
+    let refusal = Refusal::TooLong { taken: 16_777_217 };
+    assert_no_scenario(&rt, rt.alloc(), input.as_slice(), refusal);
+}
+
+#[test]
+fn faulty_words_are_named_by_place_and_code(rt: HostRuntime) {
+    assert_refused(&rt, rt.alloc(), &[], 1, WordCode::NoCommand);
+    assert_refused(&rt, rt.alloc(), &["walk"], 1, WordCode::UnknownCommand);
+    assert_refused(&rt, rt.alloc(), &["run", "fast"], 2, WordCode::NoValue);
+    assert_refused(
+        &rt,
+        rt.alloc(),
+        &["run", "workers=2"],
+        2,
+        WordCode::UnknownKey,
+    );
+}
