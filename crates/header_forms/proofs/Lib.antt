@@ -1,0 +1,9 @@
+pub mod FieldLaws
+pub mod ChecksumLaws
+pub mod WideSums
+pub mod Ipv4Laws
+pub mod UdpLaws
+pub mod LinkLaws
+pub mod ArpLaws
+pub mod OptionLaws
+pub mod TcpLaws

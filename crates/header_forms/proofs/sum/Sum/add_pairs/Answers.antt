@@ -1,0 +1,18 @@
+use Rattle.std.proofs.Common.{◌≡◌, ◌-◌, ◌*◌, ◌/◌, false, length, take, drop, sym, ap, ◌∙◌, arith, length-drop}
+use Rattle.std.proofs.lemmas.List.{take_all}
+use Rattle.header_forms.specs.Checksum.{Running, folded, with_bytes}
+use Rattle.header_forms.proofs.WideSums.{words_and_bytes}
+use Rattle.header_forms.proofs.sum.Sum.add_pairs.Goals as goal
+
+pub returns : goal.returns
+returns c =
+    let bytes = c.args.bytes.now in
+    let whole = length bytes / 8 * 8 in
+    let odd = c.self.inside.odd in
+    let even : odd ≡ false = ap (λ (s : Running). s.odd) c.self.view_is ∙ c.requires in
+    rw (← c.self.view_is)
+    (c.add_each.ensures
+    ∙ ap (with_bytes (record { sum = c.folded-self-inside.result; odd = odd })) (take_all (length bytes - whole) (drop whole bytes) (omega (arith, length-drop whole bytes)))
+    ∙ ap (λ n. with_bytes (record { sum = n; odd = odd }) (drop whole bytes)) c.folded-self-inside.ensures
+    ∙ words_and_bytes c.self.inside.sum odd c.sum_of_words.result whole bytes even c.self.invariant
+    (ap (λ n. with_bytes (record { sum = folded n; odd = false }) (take whole bytes)) (sym c.from.ensures) ∙ c.sum_of_words.ensures))

@@ -1,0 +1,10 @@
+pub mod Fields
+pub mod Checksum
+pub mod Link
+pub mod Arp
+pub mod Ipv4Fields
+pub mod Ipv4
+pub mod Icmp
+pub mod Udp
+pub mod TcpOptions
+pub mod Tcp
