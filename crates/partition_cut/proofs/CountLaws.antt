@@ -1,11 +1,10 @@
 -- Counting the places of nodes in groups, and numbering their groups.
-use Rattle.std.proofs.Common.{◌≡◌, ◌==◌, ℕ, ◌<◌, ◌≤◌, ◌+◌, List, [], ◌++◌, length, map, get_or, take, drop, count_by, min, Vec, All, suc, fold, ◌∷◌, if◌then◌else◌, refl, ap, ◌∙◌, sym, subst, arith}
+use Rattle.std.proofs.Common.{◌≡◌, ◌==◌, ℕ, ◌<◌, ◌+◌, List, [], ◌++◌, length, get_or, take, drop, count_by, Vec, All, suc, fold, ◌∷◌, if◌then◌else◌, ap, ◌∙◌, sym, subst, arith}
 use Rattle.std.specs.Global.{Global}
 use Rattle.std.specs.List.{list_any, enumerate_from}
 use Rattle.std.proofs.Math.Seq.{drop-length}
 use Rattle.std.proofs.lemmas.List.{get_or-map, take_all, take_more, length-map, length-take-le, append-nil}
-use Rattle.std.proofs.lemmas.List.Sums.{sum_by_more, fold_more, fold_push}
-use Rattle.std.proofs.lemmas.List.FromFn.{length-enumerate_from, get_or-enumerate_from}
+use Rattle.std.proofs.lemmas.List.Sums.{sum_by_more, fold_push}
 use Rattle.partition_cut.specs.Network.{node_lists}
 use Rattle.partition_cut.specs.Refusal.{places, group_in}
 

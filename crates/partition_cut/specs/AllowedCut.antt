@@ -1,5 +1,5 @@
 -- Which cuts of a network into groups are allowed, and how far ahead their groups may run.
-use Rattle.std.specs.Prelude.{◌≡◌, ◌≢◌, ◌==◌, ℕ, ◌<◌, ◌≤◌, Bool, true, false, not, List, length, All, Any, Option, Some, None, slice_index, min, if◌then◌else◌}
+use Rattle.std.specs.Prelude.{◌≡◌, ◌≢◌, ◌==◌, ℕ, ◌<◌, ◌≤◌, Bool, not, List, length, All, Any, Option, Some, None, slice_index, min, if◌then◌else◌}
 use Rattle.std.specs.List.{list_any}
 use Rattle.sim_base.specs.declared.time.Time.{Time}
 use Rattle.partition_cut.specs.declared.network.Shape.{Shape}

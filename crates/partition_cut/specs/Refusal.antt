@@ -1,5 +1,5 @@
 -- Why groups of nodes are refused as a cut.
-use Rattle.std.specs.Prelude.{◌≡◌, ◌==◌, ◌&&◌, ℕ, ◌<◌, nat_lt, Bool, List, ◌∷◌, map, sum_by, count_by, fold, position, Option, Some, None, option_map, if◌then◌else◌}
+use Rattle.std.specs.Prelude.{◌≡◌, ◌==◌, ◌&&◌, ℕ, ◌<◌, nat_lt, List, map, sum_by, count_by, fold, position, Option, Some, option_map, if◌then◌else◌}
 use Rattle.std.specs.List.{list_any, enumerate_from}
 use Rattle.std.specs.Option.{option_or}
 use Rattle.partition_cut.specs.declared.network.Shape.{Shape}

@@ -1,4 +1,4 @@
-use Rattle.std.proofs.Common.{◌≡◌, ◌∙◌, ℕ, length, sym, ap, arith}
+use Rattle.std.proofs.Common.{◌∙◌, length, sym, ap, arith}
 use Rattle.partition_cut.specs.Network.{node_lists}
 use Rattle.partition_cut.proofs.VerdictLaws.{counts-refuse, refused-places}
 use Rattle.partition_cut.proofs.verdict.check.Goals as goal

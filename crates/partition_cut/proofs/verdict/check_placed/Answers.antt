@@ -1,6 +1,5 @@
-use Rattle.std.proofs.Common.{◌≡◌, ◌∙◌, ◌<◌, ◌≤◌, ℕ, List, All, None, Option, length, sym, ap, subst, arith}
+use Rattle.std.proofs.Common.{◌≡◌, ◌∙◌, ◌<◌, ℕ, List, All, None, length, sym, ap, subst, arith}
 use Rattle.std.proofs.lemmas.List.FromFn.{length-map-range_with_len}
-use Rattle.sim_base.specs.declared.time.Time.{Time}
 use Rattle.partition_cut.specs.AllowedCut.{IsLookahead}
 use Rattle.partition_cut.specs.Network.{Link, group_at, node_lists}
 use Rattle.partition_cut.specs.Refusal.{group_in, network_refusal}

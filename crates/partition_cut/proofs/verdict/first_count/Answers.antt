@@ -1,4 +1,4 @@
-use Rattle.std.proofs.Common.{◌≡◌, ◌==◌, ◌<◌, ℕ, get_or, sym, arith, eq-eqb}
+use Rattle.std.proofs.Common.{◌==◌, get_or, sym, arith, eq-eqb}
 use Rattle.partition_cut.proofs.Positions.{position-some, position-none}
 use Rattle.partition_cut.proofs.verdict.first_count.Goals as goal
 

@@ -1,4 +1,4 @@
-use Rattle.std.proofs.Common.{◌≡◌, ◌∙◌, ◌<◌, ℕ, [], length, get_or, below_more, sym, ap, arith}
+use Rattle.std.proofs.Common.{◌∙◌, [], length, below_more, sym, ap, arith}
 use Rattle.partition_cut.specs.AllowedCut.{is_apart}
 use Rattle.partition_cut.specs.Network.{group_at, node_lists}
 use Rattle.partition_cut.proofs.CountLaws.{get_or-node_lists, length-node_lists, members-below}

@@ -1,4 +1,4 @@
-use Rattle.std.proofs.Common.{◌≡◌, ◌==◌, ◌&&◌, ◌∙◌, ◌<◌, ℕ, sym, arith}
+use Rattle.std.proofs.Common.{◌==◌, ◌&&◌, ◌∙◌, sym, arith}
 use Rattle.partition_cut.specs.AllowedCut.{is_cut}
 use Rattle.partition_cut.specs.Network.{Link, group_at}
 use Rattle.partition_cut.proofs.Positions.{position-some, position-none}

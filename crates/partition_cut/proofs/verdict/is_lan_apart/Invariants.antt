@@ -1,5 +1,4 @@
 use Rattle.std.proofs.Common.{◌≡◌, false, take}
-use Rattle.partition_cut.specs.AllowedCut.{is_apart}
 use Rattle.std.specs.List.{list_any}
 use Rattle.std.proofs.Common.{not, ◌==◌, get_or}
 use Rattle.partition_cut.proofs.verdict.is_lan_apart.Given as goal
