@@ -3,3 +3,7 @@ pub mod CountLaws
 pub mod FewGroups
 pub mod LookaheadLaws
 pub mod VerdictLaws
+pub mod JoinLaws
+pub mod RankLaws
+pub mod PairLaws
+pub mod AutoLaws

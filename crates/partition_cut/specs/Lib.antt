@@ -1,3 +1,4 @@
 pub mod Network
 pub mod AllowedCut
 pub mod Refusal
+pub mod AutoCut

@@ -3,12 +3,14 @@
 //! together, and each link between groups takes time. The least of these times is the lookahead.
 #![tactic(auto)]
 
+mod automatic;
 mod counting;
 mod lookahead;
 mod network;
 mod verdict;
 mod whole;
 
+pub use automatic::auto;
 pub use network::{Cut, Shape};
 pub use verdict::{CutBad, CutStop, check};
 pub use whole::one;

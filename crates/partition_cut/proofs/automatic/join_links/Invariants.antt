@@ -1,0 +1,7 @@
+use Rattle.std.proofs.Common.{◌≡◌, fold, take}
+use Rattle.partition_cut.specs.AutoCut.{joined, pairs_of_links}
+use Rattle.partition_cut.proofs.automatic.join_links.Given as goal
+
+-- the links so far are joined
+abbrev pub invariant-loop-link : goal.invariant-loop-link
+invariant-loop-link l = l.labels ≡ fold joined l.initial.labels (pairs_of_links l.threshold (take l.link-index l.links))

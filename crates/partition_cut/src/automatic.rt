@@ -1,0 +1,218 @@
+//! The cut that keeps near nodes together: those of a LAN, and those of a link below the median delay.
+
+ghost use Rattle.std.specs.Prelude.{◌≡◌, ◌==◌, ◌≤◌, ◌<◌, ◌+◌, ◌-◌, ◌/◌, ◌^◌, ℕ, All, IfOk, fold, flat_map, length, map, slice_get, slice_index, if◌then◌else◌};
+ghost use Rattle.std.specs.List.{range_with_len};
+ghost use Rattle.partition_cut.specs.AllowedCut.{IsCutOf};
+ghost use Rattle.partition_cut.specs.AutoCut.{AreSettled, IsAutoCut, IsMedian, is_kept, joined, pairs_of, pairs_of_lan, pairs_of_links, positive_delays, rank};
+ghost use Rattle.partition_cut.specs.Network.{IsShape, node_lists, nodes_of};
+
+use crate::lookahead::least_cut_delay;
+use crate::network::{Cut, Shape};
+use sim_base::{NoMemory, Time};
+use std::alloc::Global;
+
+/// The positive delays of links.
+fn positive_delays_of(alloc: Global, links: &[(u32, u32, Time)]) -> Result<Vec<u64>, NoMemory>
+    ensures { IfOk result (λ delays. delays.items ≡ positive_delays links.now) }
+{
+    let delays = links
+        .iter()
+        .map(|link| link.2.0)
+        .filter(|delay| *delay > 0)
+        .collect(alloc)?;
+    Ok(delays)
+}
+
+/// The element in the middle of a list, the earlier of two.
+fn middle_of(sorted: &[u64]) -> Option<u64>
+    ensures { result ≡ slice_get sorted.now ((length sorted.now - 1) / 2) }
+{
+    sorted.get(sorted.len().saturating_sub(1) / 2).copied()
+}
+
+/// The median of delays.
+fn median(mut delays: Vec<u64>) -> Result<Option<u64>, NoMemory>
+    ensures { IfOk result (λ threshold. IsMedian delays.items threshold) }
+{
+    delays.sort()?;
+    Ok(middle_of(delays.as_slice()))
+}
+
+/// A label, or the one that takes its place.
+fn replaced_label(label: u32, from: u32, to: u32) -> u32
+    ensures { result ≡ (if label == from then to else label) }
+{
+    if label == from { to } else { label }
+}
+
+/// Puts one label in another's place.
+fn replace_label(labels: &mut [u32], from: u32, to: u32)
+    ensures { labels.new ≡ map (λ label. if label == from then to else label) labels.old }
+{
+    for label in labels.iter_mut() {
+        *label = replaced_label(*label, from, to);
+    }
+}
+
+/// Makes the labels of two nodes one, the lesser.
+fn join(labels: &mut [u32], a: u32, b: u32)
+    requires a_in { a < length labels.old }
+    requires b_in { b < length labels.old }
+    ensures { labels.new ≡ joined labels.old (a, b) }
+{
+    let first = labels[a as usize];
+    let second = labels[b as usize];
+    if first == second {
+        return;
+    }
+    let high = first.max(second);
+    let low = first.min(second);
+    replace_label(labels, high, low);
+}
+
+/// Whether a link stays within a group.
+fn is_link_kept(threshold: Option<u64>, link: &(u32, u32, Time)) -> bool
+    ensures { result ≡ is_kept threshold link.now }
+{
+    match threshold {
+        None => true,
+        Some(threshold) => link.2.0 < threshold,
+    }
+}
+
+/// Joins the ends of a link that stays within a group.
+fn join_link(labels: &mut [u32], link: &(u32, u32, Time), threshold: Option<u64>)
+    requires a_in { link.now.0 < length labels.old }
+    requires b_in { link.now.1 < length labels.old }
+    ensures { labels.new ≡ (if is_kept threshold link.now then joined labels.old (link.now.0, link.now.1) else labels.old) }
+{
+    if !is_link_kept(threshold, link) {
+        return;
+    }
+    join(labels, link.0, link.1);
+}
+
+/// Joins the ends of the links that stay within groups.
+fn join_links(labels: &mut [u32], links: &[(u32, u32, Time)], threshold: Option<u64>)
+    requires { All (λ link. (link.0 < length labels.old) × (link.1 < length labels.old)) links.now }
+    ensures { labels.new ≡ fold joined labels.old (pairs_of_links threshold links.now) }
+{
+    for link in links {
+        join_link(labels, link, threshold);
+    }
+}
+
+/// Joins the members of a LAN.
+fn join_lan(labels: &mut [u32], lan: &[u32])
+    requires { All (λ member. member < length labels.old) lan.now }
+    ensures { labels.new ≡ fold joined labels.old (pairs_of_lan lan.now) }
+{
+    for member in lan {
+        join(labels, lan[0], *member);
+    }
+}
+
+/// Joins the members of each LAN.
+fn join_lans(labels: &mut [u32], lans: &[Vec<u32>])
+    requires { All (λ lan. All (λ member. member < length labels.old) lan) (node_lists lans.now) }
+    ensures { labels.new ≡ fold joined labels.old (flat_map pairs_of_lan (node_lists lans.now)) }
+{
+    for lan in lans {
+        join_lan(labels, lan.as_slice());
+    }
+}
+
+/// Joins all that stays together.
+fn join_all(labels: &mut [u32], shape: &Shape, threshold: Option<u64>)
+    requires shape { IsShape shape.now }
+    requires each { length labels.old ≡ shape.now.nodes }
+    ensures { labels.new ≡ fold joined labels.old (pairs_of threshold shape.now) }
+{
+    join_links(labels, &shape.links, threshold);
+    join_lans(labels, &shape.lans);
+}
+
+/// A label of its own for each node.
+fn own_labels(alloc: Global, nodes: u32) -> Result<Vec<u32>, NoMemory>
+    ensures { IfOk result (λ labels. labels.items ≡ range_with_len 0 nodes) }
+{
+    let mut labels = Vec::new(alloc);
+    for node in 0..nodes {
+        labels.push(node)?;
+    }
+    Ok(labels)
+}
+
+/// The labels of nodes, equal where nodes stay together: the least of them.
+fn labels_of(shape: &Shape, threshold: Option<u64>) -> Result<Vec<u32>, NoMemory>
+    requires { IsShape shape.now }
+    ensures labels { IfOk result (λ labels. labels.items ≡ fold joined (nodes_of shape.now) (pairs_of threshold shape.now)) }
+    ensures few { IfOk result (λ _. shape.now.nodes < 2 ^ 32) }
+{
+    let mut labels = own_labels(*shape.links.allocator(), shape.nodes)?;
+    join_all(&mut labels, shape, threshold);
+    Ok(labels)
+}
+
+/// The number of a node's group: the next, where the node is the first of its label.
+fn number_for(label: u32, node: usize, next: u32, numbers: &[u32]) -> u32
+    requires label { label ≤ node }
+    requires each { length numbers.now ≡ node }
+    ensures { result ≡ (if label == node then next else slice_index numbers.now label) }
+{
+    if label as usize == node {
+        next
+    } else {
+        numbers[label as usize]
+    }
+}
+
+/// The number of groups, with one more node.
+fn next_after(label: u32, node: usize, next: u32) -> u32
+    requires { next + 1 < 2 ^ 32 }
+    ensures { result ≡ (if label == node then next + 1 else next) }
+{
+    if label as usize == node {
+        next + 1
+    } else {
+        next
+    }
+}
+
+/// The group of each node by the labels, and how many groups there are.
+fn numbers_of(alloc: Global, labels: &[u32]) -> Result<(Vec<u32>, u32), NoMemory>
+    requires settled { AreSettled labels.now }
+    requires few { length labels.now < 2 ^ 32 }
+    ensures numbers { IfOk result (λ made. made.0.items ≡ map (rank labels.now) labels.now) }
+    ensures groups { IfOk result (λ made. made.1 ≡ rank labels.now (length labels.now)) }
+{
+    let mut numbers = Vec::new(alloc);
+    let mut next = 0;
+    for (node, label) in labels.iter().enumerate() {
+        let number = number_for(*label, node, next, numbers.as_slice());
+        numbers.push(number)?;
+        next = next_after(*label, node, next);
+    }
+    Ok((numbers, next))
+}
+
+/// The cut of the links that take at least the median of the positive delays: the one at index
+/// `(n - 1) / 2` of the `n` in their order. Groups are what the other links and the LANs join, and
+/// are numbered by their least node.
+pub fn auto(shape: &Shape) -> Result<Cut, NoMemory>
+    requires { IsShape shape.now }
+    ensures allowed { IfOk result (λ cut. IsCutOf shape.now cut) }
+    ensures joined { IfOk result (λ cut. IsAutoCut shape.now cut) }
+{
+    let alloc = *shape.links.allocator();
+    let delays = positive_delays_of(alloc, &shape.links)?;
+    let threshold = median(delays)?;
+    let labels = labels_of(shape, threshold)?;
+    let numbered = numbers_of(alloc, labels.as_slice())?;
+    let lookahead = least_cut_delay(&shape.links, numbered.0.as_slice());
+    Ok(Cut {
+        group_of: numbered.0,
+        groups: numbered.1,
+        lookahead,
+    })
+}
