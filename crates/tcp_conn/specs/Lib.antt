@@ -1,0 +1,5 @@
+pub mod Begin
+pub mod Fits
+pub mod RoundTrip
+pub mod Send
+pub mod Step
