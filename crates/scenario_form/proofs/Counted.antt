@@ -9,7 +9,7 @@ use Rattle.scenario_form.specs.Checks.{Check, ◌>>◌, require, refuse_as, each
 use Rattle.scenario_form.specs.Forms.{of_type, values_in, count_check}
 use Rattle.scenario_form.specs.Rows.{Row, may, flag, known_keys, fault, value_check, row_check, table_check, top_rows}
 use Rattle.scenario_form.specs.Values.{tables_in, tables_at}
-use Rattle.scenario_form.specs.Walk.{scenario_of, refusal, top_check, walk_check, walk_reading, nodes_of}
+use Rattle.scenario_form.specs.Walk.{scenario_in, refusal, top_check, walk_check, walk_reading, nodes_of}
 use Rattle.scenario_form.specs.Limits.{IsCounted, HasFew}
 use Rattle.scenario_form.proofs.Steps.{then_ok_check, then_ok_value, first_ok, rest_ok, require_ok, refuse_ok}
 
@@ -70,8 +70,8 @@ same_length f (x ∷ xs) = ap suc (same_length f xs)
 -- the same of the scenario that passed the walk
 pub few : (t : Members) (s : Scenario) → walk_reading t ≡ Ok s → HasFew s
 few t s h =
-    let walked : walk_check t ≡ Ok tt = then_ok_check (walk_check t) (scenario_of t) s (sym h) in
-    let is : s ≡ scenario_of t = then_ok_value (walk_check t) (scenario_of t) s (sym h) in
+    let walked : walk_check t ≡ Ok tt = then_ok_check (walk_check t) (scenario_in t) s (sym h) in
+    let is : s ≡ scenario_in t = then_ok_value (walk_check t) (scenario_in t) s (sym h) in
     let c : IsCounted t = counted t (refuse_ok (refusal 0 0) (top_check t) (first_ok (refuse_as (refusal 0 0) (top_check t)) _ walked)) in
     let P : Scenario → Type 0 = λ x. HasFew x in
     subst P (sym is) (record {

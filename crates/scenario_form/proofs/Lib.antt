@@ -2,7 +2,7 @@ pub mod Arrays
 pub mod Steps
 pub mod TableSteps
 pub mod HeldKeys
-pub mod BytesGive
+pub mod Texts
 pub mod EndsPast
 pub mod FoundLaws
 pub mod LossSteps

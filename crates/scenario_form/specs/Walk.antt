@@ -29,8 +29,8 @@ abbrev pub groups_of : List Data → List (List NodeId)
 groups_of ds = filter_map group_of ds
 
 -- what the tables say, with defaults filled in
-abbrev pub scenario_of : Members → Scenario
-scenario_of t = record {
+abbrev pub scenario_in : Members → Scenario
+scenario_in t = record {
   format = number_or 0 (codes "format") t;
   nodes = nodes_of t;
   stop_ns = time_of (number_or 0 (codes "stop_ns") t);
@@ -77,4 +77,4 @@ walk_check t =
 
 -- the scenario before the checks over all tables
 abbrev pub walk_reading : Members → Result Scenario Refusal
-walk_reading t = walk_check t >> Ok (scenario_of t)
+walk_reading t = walk_check t >> Ok (scenario_in t)

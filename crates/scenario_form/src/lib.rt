@@ -24,6 +24,6 @@ mod twice;
 mod values;
 
 pub use field::Code;
-pub use read::read_scenario;
+pub use read::{SCENARIO_LIMIT, document_of, read_scenario};
 pub use refusal::{Place, ReadStop, Refusal};
 pub use scenario::{App, Kind, Lan, Link, Loss, Queue, Route, Routing, Scenario};

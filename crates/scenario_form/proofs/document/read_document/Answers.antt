@@ -1,7 +1,7 @@
 use Rattle.std.proofs.Common.{◌≤◌, length, Ok, arith}
 use Rattle.toml.specs.View.{table_view}
 use Rattle.scenario_form.specs.Checks.{◌>>◌}
-use Rattle.scenario_form.specs.Walk.{scenario_of, walk_check}
+use Rattle.scenario_form.specs.Walk.{scenario_in, walk_check}
 use Rattle.scenario_form.specs.Across.{across_check}
 use Rattle.scenario_form.proofs.AnswerSteps.{answers_first, both_pass, answers_second}
 use Rattle.scenario_form.proofs.Counted.{few}
@@ -9,7 +9,7 @@ use Rattle.scenario_form.proofs.document.read_document.Goals as goal
 
 pub returns-in-Err : goal.returns-in-Err
 returns-in-Err c =
-    let s = scenario_of (table_view c.args.document.now) in
+    let s = scenario_in (table_view c.args.document.now) in
     answers_first c.in-Err.stop (walk_check (table_view c.args.document.now)) s (across_check s >> Ok s) c.in-Err.ensures
 
 pub check_across-requires-clause-links : goal.check_across-requires-clause-links
@@ -29,8 +29,8 @@ check_across-requires-clause-losses c = let k : length c.in-Ok.scenario.losses �
 
 pub returns-in-Ok-check_across : goal.returns-in-Ok-check_across
 returns-in-Ok-check_across c =
-    both_pass (walk_check (table_view c.args.document.now)) (scenario_of (table_view c.args.document.now)) c.in-Ok.scenario across_check c.in-Ok.ensures c.in-Ok-check_across.ensures
+    both_pass (walk_check (table_view c.args.document.now)) (scenario_in (table_view c.args.document.now)) c.in-Ok.scenario across_check c.in-Ok.ensures c.in-Ok-check_across.ensures
 
 pub returns-in-Err-check_across : goal.returns-in-Err-check_across
 returns-in-Err-check_across c =
-    answers_second c.in-Err-check_across.stop (walk_check (table_view c.args.document.now)) (scenario_of (table_view c.args.document.now)) c.in-Ok.scenario across_check c.in-Ok.ensures c.in-Err-check_across.ensures
+    answers_second c.in-Err-check_across.stop (walk_check (table_view c.args.document.now)) (scenario_in (table_view c.args.document.now)) c.in-Ok.scenario across_check c.in-Ok.ensures c.in-Err-check_across.ensures
