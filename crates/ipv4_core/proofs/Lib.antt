@@ -1,0 +1,3 @@
+pub mod RouteLaws
+pub mod IpLaws
+pub mod FitLaws

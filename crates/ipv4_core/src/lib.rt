@@ -1,0 +1,8 @@
+//! IPv4: sending, forwarding and delivery. It stands between the transport protocols and the links.
+#![tactic(auto)]
+
+mod ip;
+mod routes;
+
+pub use ip::{Act, In, Ip};
+pub use routes::{Hop, Routes, Table, Way};
