@@ -1,0 +1,2 @@
+pub mod DiscLaws
+pub mod OrderLaws
