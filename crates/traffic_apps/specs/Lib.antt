@@ -1,0 +1,5 @@
+pub mod Counts
+pub mod Seen
+pub mod App
+pub mod Step
+pub mod Runs
