@@ -1,4 +1,4 @@
-use Rattle.std.proofs.Common.{refl, sym, ap, ◌∙◌, ◌++◌, ◌∷◌, [], subst, List}
+use Rattle.std.proofs.Common.{refl, sym, ◌∙◌, subst, List}
 use Rattle.std.specs.Result.{is_ok}
 use Rattle.std.proofs.lemmas.Bool.{cond_both}
 use Rattle.sim_base.specs.declared.tags.PacketTag.{PacketTag}

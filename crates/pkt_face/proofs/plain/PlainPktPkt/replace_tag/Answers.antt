@@ -1,10 +1,10 @@
-use Rattle.std.proofs.Common.{sym, ap, ◌∙◌, ◌≡◌, ◌++◌, ◌∷◌, [], subst, List, ℕ, Some}
+use Rattle.std.proofs.Common.{sym, ap, ◌∙◌, ◌++◌, ◌∷◌, [], subst, List}
 use Rattle.std.specs.List.{position}
 use Rattle.std.specs.Result.{is_ok}
 use Rattle.std.proofs.lemmas.Bool.{cond_both}
 use Rattle.sim_base.specs.declared.tags.PacketTag.{PacketTag}
-use Rattle.sim_base.specs.Packet.{Packet, IsPacket}
-use Rattle.sim_base.specs.PacketTags.{has_tag, replace_tag}
+use Rattle.sim_base.specs.Packet.{IsPacket}
+use Rattle.sim_base.specs.PacketTags.{has_tag}
 use Rattle.sim_base.proofs.PacketLaws.{IsPacket-replace_tag}
 use Rattle.sim_base.proofs.PacketMade.{made-replace_tag}
 use Rattle.pkt_face.specs.Plain.{plain_packet}
