@@ -2,9 +2,14 @@
 //! for each packet a head and its bytes. A captured frame leaves the simulator here.
 #![tactic(auto)]
 
+mod packets;
+#[cfg(test)]
+mod tests;
+
 ghost use Rattle.std.specs.Prelude.{◌≡◌, ◌<◌, ◌≤◌, ◌*◌, ◌^◌, ◌++◌, length, OnOk, OnErr};
 ghost use Rattle.pcap_form.specs.Capture.{capture_head, captured_packet, packet_head};
 
+pub use packets::write_packet;
 use sim_base::{NoMemory, Time};
 
 /// How many bytes of a packet a file holds at most.
