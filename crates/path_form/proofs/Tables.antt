@@ -1,7 +1,5 @@
 -- Tables and arrays of a document, beside the values that hold them.
-use Rattle.std.proofs.Common.{◌≡◌, ℕ, List, [], ◌∷◌, length, Bool, true, false, get_or, Some, None, String, Global, refl, arith}
-use Rattle.std.specs.Str.{IsUtf8, is_utf8}
-use Rattle.std.proofs.lemmas.Str.{IsUtf8-from_is_utf8}
+use Rattle.std.proofs.Common.{◌≡◌, List, [], ◌∷◌, length, get_or, Some, None, String, Global, refl, arith}
 use Rattle.toml.specs.declared.value.Value.{Value}
 use Rattle.toml.specs.View.{view, items_view, members_view}
 use Rattle.path_form.specs.Lookup.{key_count, one_item, two_items}
@@ -31,10 +29,3 @@ two_items-other [] other = refl
 two_items-other (v ∷ []) other = refl
 two_items-other (v ∷ w ∷ []) other = absurd (other refl)
 two_items-other (v ∷ w ∷ u ∷ vs) other = refl
-
-not_utf8_as : (bytes : List ℕ) (b : Bool) → (IsUtf8 bytes → ⊥) → is_utf8 bytes ≡ b → b ≡ false
-not_utf8_as bytes true other is = absurd (other (IsUtf8-from_is_utf8 bytes is))
-not_utf8_as bytes false other is = refl
-
-pub not_utf8 : (bytes : List ℕ) → (IsUtf8 bytes → ⊥) → is_utf8 bytes ≡ false
-not_utf8 bytes other = not_utf8_as bytes (is_utf8 bytes) other refl

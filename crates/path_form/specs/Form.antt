@@ -1,11 +1,7 @@
 -- The scenarios that can be run: two nodes, one link, one sink and one sender.
-use Rattle.std.specs.Prelude.{ℕ, ◌+◌, ◌==◌, nat_lt, if◌then◌else◌, List, length, codes, Option, Some, None, Result, Ok, Err}
-use Rattle.std.specs.Str.{is_utf8}
+use Rattle.std.specs.Prelude.{ℕ, ◌==◌, codes, Option, Some}
 use Rattle.toml.specs.Data.{Members, get_member}
-use Rattle.toml.specs.Parse.{parse_document}
 use Rattle.path_scenario.specs.declared.scenario.Scenario.{Scenario}
-use Rattle.path_form.specs.declared.refusal.Refusal.{Refusal}
-use Rattle.path_form.specs.declared.refusal.Refusal.TheVariants.{TooLong, NotToml, NotBuilt}
 use Rattle.path_form.specs.declared.link.Link.{Link}
 use Rattle.path_form.specs.declared.applications.Traffic.{Traffic}
 use Rattle.path_form.specs.Lookup.{◌>>=◌, require, key_count, number_at, kind_at, flag_at, one_table, two_tables}
@@ -90,26 +86,3 @@ scenario_in ms = do
     interval = traffic.interval;
     size = traffic.size;
   })
-
--- the document of bytes that are text
-unfoldable pub document_of : List ℕ → Option Members
-document_of bytes = if is_utf8 bytes then parse_document bytes else None
-
--- no scenario is longer
-abbrev pub scenario_limit : ℕ
-scenario_limit = 16777216
-
--- a document of another form is not built yet
-abbrev pub accepted : Option Scenario → Result Scenario Refusal
-accepted None = Err NotBuilt
-accepted (Some s) = Ok s
-
--- bytes that are no document are not TOML
-abbrev pub read_document : Option Members → Result Scenario Refusal
-read_document None = Err NotToml
-read_document (Some ms) = accepted (scenario_in ms)
-
--- the scenario of bytes, or the first refusal
-unfoldable pub scenario_of : List ℕ → Result Scenario Refusal
-scenario_of bytes =
-    if nat_lt scenario_limit (length bytes) then Err (TooLong (scenario_limit + 1)) else read_document (document_of bytes)

@@ -1,4 +1,4 @@
-//! Reads a scenario of two nodes on one link from the bytes of a TOML document.
+//! Reads what a run simulates from the bytes of a scenario: two nodes on one link.
 #![tactic(auto)]
 
 mod address;
@@ -6,9 +6,7 @@ mod applications;
 mod link;
 mod lookup;
 mod reader;
-mod refusal;
 
 pub use applications::Traffic;
 pub use link::Link;
-pub use reader::{ReadStop, SCENARIO_LIMIT, read_scenario};
-pub use refusal::Refusal;
+pub use reader::{Reading, read_scenario};

@@ -1,70 +1,58 @@
-//! The scenario of bytes: where a run's input ends.
+//! The reading of bytes: where a run's input ends.
 
-ghost use Rattle.std.specs.Prelude.{◌≡◌, option_map, length, ◌≤◌, IfSome, IfOk, OnOk, IfErr};
-ghost use Rattle.path_form.specs.Form.{document_of, scenario_in, scenario_limit, scenario_of};
+ghost use Rattle.std.specs.Prelude.{◌≡◌, length, ◌≤◌, Ok, IfSome, IfOk, OnOk, IfErr};
 ghost use Rattle.toml.specs.View.{table_view};
+ghost use Rattle.scenario_form.specs.Reading.{scenario_limit};
+ghost use Rattle.scenario_form.specs.Answers.{IsRefusalOf};
 ghost use Rattle.path_scenario.specs.Scenario.{IsWithinLimits};
-ghost use Rattle.path_form.specs.Reading.{IsRefusalOf};
+ghost use Rattle.path_form.specs.Form.{scenario_in};
+ghost use Rattle.path_form.specs.Reading.{built_of, reading_of};
 
 use crate::applications::{apps_at, sender_of, sink_of};
 use crate::link::link_at;
 use crate::lookup::{key_count, number_at};
-use crate::refusal::Refusal;
 use path_scenario::Scenario;
+use scenario_form::{ReadStop, Refusal, document_of};
 use sim_base::{NoMemory, Time};
 use std::alloc::Global;
 use toml::Table;
 
-/// No scenario is longer.
-pub const SCENARIO_LIMIT: usize = 16_777_216;
-
-/// Why no scenario was read.
-#[derive(Clone, Copy, Debug)]
-pub enum ReadStop {
-    Refused(Refusal),
-    NoMemory,
+/// The whole scenario, and what of it is built: two nodes on one link.
+#[derive(Drop)]
+pub struct Reading {
+    pub whole: scenario_form::Scenario,
+    pub built: Scenario,
 }
 
-/// The scenario of bytes, or the first refusal.
-#[tactic(auto, unfolding(crate::specs::Form::scenario_of))]
-pub fn read_scenario(alloc: Global, bytes: &[u8]) -> Result<Scenario, ReadStop>
-    ensures ok { IfOk result (λ s. scenario_of bytes.now ≡ Ok s) }
-    ensures limits { IfOk result IsWithinLimits }
+/// The reading of bytes, or the first refusal. `NotBuilt` comes where a scenario has another form.
+#[tactic(auto, unfolding(crate::specs::Reading::reading_of))]
+pub fn read_scenario(alloc: Global, bytes: &[u8]) -> Result<Reading, ReadStop>
+    ensures ok { IfOk result (λ reading. reading_of bytes.now ≡ Ok reading) }
+    ensures limits { IfOk result (λ reading. IsWithinLimits reading.built) }
     ensures short { OnOk result (length bytes.now ≤ scenario_limit) }
-    ensures refused { IfErr result (IsRefusalOf (scenario_of bytes.now)) }
+    ensures refused { IfErr result (IsRefusalOf (reading_of bytes.now)) }
 {
-    if bytes.len() > SCENARIO_LIMIT {
-        return Err(ReadStop::Refused(Refusal::TooLong {
-            taken: SCENARIO_LIMIT as u64 + 1,
-        }));
-    }
-    match document_of(alloc, bytes) {
+    let whole = match scenario_form::read_scenario(alloc, bytes) {
+        Ok(whole) => whole,
+        Err(stop) => return Err(stop),
+    };
+    match built_of(alloc, bytes) {
         Err(NoMemory) => Err(ReadStop::NoMemory),
-        Ok(None) => Err(ReadStop::Refused(Refusal::NotToml)),
-        Ok(Some(table)) => match scenario_in(&table) {
-            Some(scenario) => Ok(scenario),
-            None => Err(ReadStop::Refused(Refusal::NotBuilt)),
-        },
+        Ok(None) => Err(ReadStop::Refused(Refusal::NotBuilt)),
+        Ok(Some(built)) => Ok(Reading { whole, built }),
     }
 }
 
-/// The document of bytes that are text.
-#[tactic(auto, unfolding(crate::specs::Form::document_of))]
-fn document_of(alloc: Global, bytes: &[u8]) -> Result<Option<Table>, NoMemory>
-    ensures { IfOk result (λ table. option_map table_view table ≡ document_of bytes.now) }
+/// What is built of the document of bytes.
+#[tactic(auto, unfolding(crate::specs::Reading::built_of))]
+fn built_of(alloc: Global, bytes: &[u8]) -> Result<Option<Scenario>, NoMemory>
+    ensures value { IfOk result (λ built. built ≡ built_of bytes.now) }
+    ensures limits { IfOk result (λ built. IfSome built IsWithinLimits) }
 {
-    let Ok(text) = str::from_utf8(bytes) else {
-        return Ok(None);
-    };
-    match toml::table_from_str(alloc, text) {
-        Ok(table) => Ok(Some(table)),
-        Err(error) => {
-            if error.is_memory() {
-                Err(NoMemory)
-            } else {
-                Ok(None)
-            }
-        }
+    match document_of(alloc, bytes) {
+        Err(NoMemory) => Err(NoMemory),
+        Ok(None) => Ok(None),
+        Ok(Some(document)) => Ok(scenario_in(&document)),
     }
 }
 

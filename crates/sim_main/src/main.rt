@@ -1,10 +1,10 @@
-//! The program: it reads a scenario from standard input, runs it, and writes its capture file into the
-//! working folder and its summary to standard output. Where something stops it, it writes one line
-//! that says what, and ends with a status other than 0.
+//! The program: it reads a scenario from standard input. `run` runs it, and writes its capture file
+//! into the working folder and its summary to standard output; `check` writes its sizes. Where
+//! something stops it, it writes one line that says what, and ends with a status other than 0.
 #![tactic(auto)]
 
 use outside::{FolderStore, StdinSource, StdoutSink};
-use sim_run::{Refusal, Status, WordCode, WordFault, run_program};
+use sim_run::{Code, Refusal, Status, WordCode, WordFault, run_program};
 use std::fs::File;
 use std::process::ExitCode;
 use std::{env, io};
@@ -68,10 +68,7 @@ fn write_fault_line(rt: &HostRuntime, status: Status) -> io::Result<()> {
             let name = code_name(code);
             println!(rt; "words {place} {name}")
         }
-        Status::Scenario(refusal) => {
-            let name = refusal_name(refusal);
-            println!(rt; "scenario {name}")
-        }
+        Status::Scenario(refusal) => write_refusal_line(rt, refusal),
         Status::ReadFault => println!(rt; "read fault"),
         Status::WriteFault => println!(rt; "write fault"),
         Status::NoMemory => println!(rt; "no memory"),
@@ -87,11 +84,38 @@ fn code_name(code: WordCode) -> &'static str {
     }
 }
 
-fn refusal_name(refusal: Refusal) -> &'static str {
+/// Writes the line of a refused scenario: where the first refusal is, and why.
+fn write_refusal_line(rt: &HostRuntime, refusal: Refusal) -> io::Result<()> {
     match refusal {
-        Refusal::TooLong { taken: _ } => "TooLong",
-        Refusal::NotToml => "NotToml",
-        Refusal::NotBuilt => "NotBuilt",
+        Refusal::TooLong { taken: _ } => println!(rt; "scenario TooLong"),
+        Refusal::NotToml => println!(rt; "scenario NotToml"),
+        Refusal::NotBuilt => println!(rt; "scenario NotBuilt"),
+        Refusal::Schema { place, code } => {
+            let section = place.section;
+            let index = place.index;
+            let field = place.field;
+            let name = refusal_name(code);
+            println!(rt; "scenario {section} {index} {field} {name}")
+        }
+    }
+}
+
+fn refusal_name(code: Code) -> &'static str {
+    match code {
+        Code::Unknown => "Unknown",
+        Code::Missing => "Missing",
+        Code::WrongType => "WrongType",
+        Code::Range => "Range",
+        Code::Address => "Address",
+        Code::Same => "Same",
+        Code::Length => "Length",
+        Code::Subnet => "Subnet",
+        Code::Conflict => "Conflict",
+        Code::Burst => "Burst",
+        Code::Twice => "Twice",
+        Code::NoNeighbour => "NoNeighbour",
+        Code::Own => "Own",
+        Code::NoInterface => "NoInterface",
     }
 }
 

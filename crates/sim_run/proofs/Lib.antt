@@ -1,3 +1,4 @@
 pub mod Outputs
 pub mod NewFiles
 pub mod WholeInput
+pub mod Joined

@@ -26,6 +26,10 @@ pub nothing_made : (before : Option (List File)) (whole : List File) → HasFile
 nothing_made None whole = ([], tt, tt)
 nothing_made (Some files) whole = ([], tt, ap Some (sym (append-nil files)))
 
+pub no_files : (before : Option (List File)) → HasFiles before before []
+no_files None = tt
+no_files (Some files) = ap Some (sym (append-nil files))
+
 pub nothing_created : (before after : Option (List File)) (stop : StoreStop) (name : List ℕ) (whole : List File) → Creates before after (Err stop) name → HasFilePrefixes before after whole
 nothing_created None after stop name whole created = ([], tt, tt)
 nothing_created (Some files) after stop name whole created = ([], tt, created ∙ ap Some (sym (append-nil files)))

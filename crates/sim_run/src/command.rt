@@ -1,12 +1,15 @@
 //! The command line: its first word is the command.
 
 ghost use Rattle.std.specs.Prelude.{◌≡◌, map, string_bytes};
-ghost use Rattle.sim_run.specs.Command.{command_of, refuse, setting_fault};
+ghost use Rattle.sim_run.specs.Command.{command_named, command_of, refuse, setting_fault};
 
 /// What the program is to do.
 #[derive(Clone, Copy, Debug, PartialEq, Eq)]
 pub enum Command {
+    /// Simulates the scenario, and writes its captures and its summary.
     Run,
+    /// Reads the scenario, and writes its sizes.
+    Check,
 }
 
 /// What is wrong with a word.
@@ -30,15 +33,28 @@ pub struct WordFault {
 pub fn read_command(words: &[String]) -> Result<Command, WordFault>
     ensures { result ≡ command_of (map string_bytes words.now) }
 {
-    let Some((command, settings)) = words.split_first() else {
+    let Some((first, settings)) = words.split_first() else {
         return refuse(1, WordCode::NoCommand);
     };
-    if command.as_str() != "run" {
+    let Some(command) = command_named(first) else {
         return refuse(1, WordCode::UnknownCommand);
-    }
+    };
     match settings.first() {
-        None => Ok(Command::Run),
+        None => Ok(command),
         Some(word) => refuse(2, setting_fault(word)),
+    }
+}
+
+/// The command that a word names.
+fn command_named(word: &String) -> Option<Command>
+    ensures { result ≡ command_named (string_bytes word.now) }
+{
+    if word.as_str() == "run" {
+        Some(Command::Run)
+    } else if word.as_str() == "check" {
+        Some(Command::Check)
+    } else {
+        None
     }
 }
 

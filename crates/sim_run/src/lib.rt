@@ -7,10 +7,12 @@ mod input;
 mod output;
 mod program;
 mod simulate;
+mod sizes;
 mod status;
+mod stop;
 mod summary;
 
 pub use command::{Command, WordCode, WordFault, read_command};
-pub use path_form::Refusal;
 pub use program::run_program;
+pub use scenario_form::{Code, Place, Refusal};
 pub use status::Status;

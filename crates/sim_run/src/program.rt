@@ -1,20 +1,25 @@
 //! The top call: the words, the source, the scenario, the run, in this order. The first that refuses
 //! decides the answer.
 
-ghost use Rattle.std.specs.Prelude.{◌≡◌, ◌≢◌, length, ◌≤◌, ◌⊎◌, ℕ, List, ◌++◌, Some, [], map, string_bytes, codes, Err, IfErr, IfSome};
+ghost use Rattle.std.specs.Prelude.{◌≡◌, ◌≢◌, length, ◌≤◌, ◌⊎◌, ℕ, List, ◌++◌, Some, [], map, string_bytes, codes, Err, OnOk, OnErr, IfErr, IfSome};
 ghost use Rattle.outside.specs.Causes.{Rose};
-ghost use Rattle.path_form.specs.Form.{scenario_of, scenario_limit};
+ghost use Rattle.path_scenario.specs.Scenario.{IsWithinLimits};
+ghost use Rattle.scenario_form.specs.Reading.{scenario_limit};
+ghost use Rattle.path_form.specs.Reading.{reading_of};
 ghost use Rattle.sim_run.specs.Output.{HasFiles, HasFilePrefixes, HasGot, HasGotPrefix};
 ghost use Rattle.sim_run.specs.Command.{command_of};
 ghost use Rattle.sim_run.specs.declared.command.WordFault.{WordFault};
-ghost use Rattle.sim_run.specs.Plain.{plain, run_of, IsAnswer, BeforeFiles};
+ghost use Rattle.sim_run.specs.Plain.{plain, answered, files_for, text_for, IsAnswer, BeforeFiles};
 
 use crate::command::{Command, read_command};
 use crate::input::{InputStop, read_all};
-use crate::simulate::{RunStop, simulate};
+use crate::simulate::simulate;
+use crate::sizes::write_sizes;
 use crate::status::Status;
+use crate::stop::RunStop;
 use outside::{Sink, Source, TraceStore};
-use path_form::{ReadStop, SCENARIO_LIMIT, read_scenario};
+use path_form::{Reading, read_scenario};
+use scenario_form::{ReadStop, SCENARIO_LIMIT};
 use std::alloc::Global;
 
 /// Runs the program that the words name, over a source, a store and a sink.
@@ -52,27 +57,28 @@ pub fn run_program<S: Source, F: TraceStore, O: Sink>(
     ensures complete { ¬ Rose (S.faults source.old) (S.faults source.new) → ¬ Rose (F.faults store.old) (F.faults store.new) → ¬ Rose (O.faults out.old) (O.faults out.new) → IfSome (S.left source.old) (λ input. (result ≡ (plain (map string_bytes words.now) input).status) ⊎ (result ≡ Status.NoMemory)) }
 {
     match read_command(words) {
-        Ok(Command::Run) => run_source(alloc, source, store, out),
+        Ok(command) => run_source(alloc, command, source, store, out),
         Err(fault) => Status::Words(fault),
     }
 }
 
-/// Runs the scenario that the source spells, or answers its refusal.
+/// Carries out a command on the scenario that the source spells, or answers its refusal.
 fn run_source<S: Source, F: TraceStore, O: Sink>(
     alloc: Global,
+    command: Command,
     source: &mut S,
     store: &mut F,
     out: &mut O,
 ) -> Status
     requires { (rest : List ℕ) → F.takes store.old (codes "trace" ++ rest) }
-    ensures answer { IfSome (S.left source.old) (λ input. IsAnswer (run_of (scenario_of input)).status result) }
+    ensures answer { IfSome (S.left source.old) (λ input. IsAnswer (answered command (reading_of input)).status result) }
     ensures no_words { (fault : WordFault) → result ≢ Status.Words fault }
     ensures untouched { BeforeFiles result ((store.new ≡ store.old) × (out.new ≡ out.old)) }
     ensures input { result ≡ Status.Done → IfSome (S.left source.old) (λ _. S.left source.new ≡ Some []) }
-    ensures files { IfSome (S.left source.old) (λ input. result ≡ (run_of (scenario_of input)).status → HasFiles (F.files store.old) (F.files store.new) (run_of (scenario_of input)).files) }
-    ensures text { IfSome (S.left source.old) (λ input. result ≡ (run_of (scenario_of input)).status → HasGot (O.got out.old) (O.got out.new) (run_of (scenario_of input)).text) }
-    ensures file_prefixes { IfSome (S.left source.old) (λ input. HasFilePrefixes (F.files store.old) (F.files store.new) (run_of (scenario_of input)).files) }
-    ensures text_prefix { IfSome (S.left source.old) (λ input. HasGotPrefix (O.got out.old) (O.got out.new) (run_of (scenario_of input)).text) }
+    ensures files { IfSome (S.left source.old) (λ input. result ≡ (answered command (reading_of input)).status → HasFiles (F.files store.old) (F.files store.new) (answered command (reading_of input)).files) }
+    ensures text { IfSome (S.left source.old) (λ input. result ≡ (answered command (reading_of input)).status → HasGot (O.got out.old) (O.got out.new) (answered command (reading_of input)).text) }
+    ensures file_prefixes { IfSome (S.left source.old) (λ input. HasFilePrefixes (F.files store.old) (F.files store.new) (answered command (reading_of input)).files) }
+    ensures text_prefix { IfSome (S.left source.old) (λ input. HasGotPrefix (O.got out.old) (O.got out.new) (answered command (reading_of input)).text) }
     ensures read_fault { result ≡ Status.ReadFault → Rose (S.faults source.old) (S.faults source.new) }
     ensures write_fault { result ≡ Status.WriteFault → Rose (F.faults store.old) (F.faults store.new) ⊎ Rose (O.faults out.old) (O.faults out.new) }
     ensures later { (S.faults source.old ≤ S.faults source.new) × (F.faults store.old ≤ F.faults store.new) × (O.faults out.old ≤ O.faults out.new) }
@@ -82,37 +88,61 @@ fn run_source<S: Source, F: TraceStore, O: Sink>(
         Err(InputStop::Failed) => return Status::ReadFault,
         Err(InputStop::NoMemory) => return Status::NoMemory,
     };
-    run_bytes(alloc, bytes.as_slice(), store, out)
+    run_bytes(alloc, command, bytes.as_slice(), store, out)
 }
 
-/// Runs the scenario that the bytes spell, or answers its refusal.
+/// Carries out a command on the scenario that the bytes spell, or answers its refusal.
 fn run_bytes<F: TraceStore, O: Sink>(
     alloc: Global,
+    command: Command,
     bytes: &[u8],
     store: &mut F,
     out: &mut O,
 ) -> Status
     requires { (rest : List ℕ) → F.takes store.old (codes "trace" ++ rest) }
-    ensures answer { IsAnswer (run_of (scenario_of bytes.now)).status result }
+    ensures answer { IsAnswer (answered command (reading_of bytes.now)).status result }
     ensures no_words { (fault : WordFault) → result ≢ Status.Words fault }
     ensures no_read_fault { result ≢ Status.ReadFault }
     ensures untouched { BeforeFiles result ((store.new ≡ store.old) × (out.new ≡ out.old)) }
     ensures short { result ≡ Status.Done → length bytes.now ≤ scenario_limit }
-    ensures files { result ≡ (run_of (scenario_of bytes.now)).status → HasFiles (F.files store.old) (F.files store.new) (run_of (scenario_of bytes.now)).files }
-    ensures text { result ≡ (run_of (scenario_of bytes.now)).status → HasGot (O.got out.old) (O.got out.new) (run_of (scenario_of bytes.now)).text }
-    ensures file_prefixes { HasFilePrefixes (F.files store.old) (F.files store.new) (run_of (scenario_of bytes.now)).files }
-    ensures text_prefix { HasGotPrefix (O.got out.old) (O.got out.new) (run_of (scenario_of bytes.now)).text }
+    ensures files { result ≡ (answered command (reading_of bytes.now)).status → HasFiles (F.files store.old) (F.files store.new) (answered command (reading_of bytes.now)).files }
+    ensures text { result ≡ (answered command (reading_of bytes.now)).status → HasGot (O.got out.old) (O.got out.new) (answered command (reading_of bytes.now)).text }
+    ensures file_prefixes { HasFilePrefixes (F.files store.old) (F.files store.new) (answered command (reading_of bytes.now)).files }
+    ensures text_prefix { HasGotPrefix (O.got out.old) (O.got out.new) (answered command (reading_of bytes.now)).text }
     ensures later { (F.faults store.old ≤ F.faults store.new) × (O.faults out.old ≤ O.faults out.new) }
     ensures write_fault { result ≡ Status.WriteFault → Rose (F.faults store.old) (F.faults store.new) ⊎ Rose (O.faults out.old) (O.faults out.new) }
 {
-    let scenario = match read_scenario(alloc, bytes) {
-        Ok(scenario) => scenario,
+    let reading = match read_scenario(alloc, bytes) {
+        Ok(reading) => reading,
         Err(ReadStop::Refused(refusal)) => return Status::Scenario(refusal),
         Err(ReadStop::NoMemory) => return Status::NoMemory,
     };
-    match simulate(alloc, &scenario, store, out) {
+    match carry_out(alloc, command, &reading, store, out) {
         Ok(()) => Status::Done,
         Err(RunStop::WriteFault) => Status::WriteFault,
         Err(RunStop::NoMemory) => Status::NoMemory,
+    }
+}
+
+/// Carries out a command on a scenario.
+fn carry_out<F: TraceStore, O: Sink>(
+    alloc: Global,
+    command: Command,
+    reading: &Reading,
+    store: &mut F,
+    out: &mut O,
+) -> Result<(), RunStop>
+    requires limits { IsWithinLimits reading.now.built }
+    requires names { (rest : List ℕ) → F.takes store.old (codes "trace" ++ rest) }
+    ensures files { OnOk result (HasFiles (F.files store.old) (F.files store.new) (files_for command reading.now)) }
+    ensures text { OnOk result (HasGot (O.got out.old) (O.got out.new) (text_for command reading.now)) }
+    ensures file_prefixes { OnErr result (HasFilePrefixes (F.files store.old) (F.files store.new) (files_for command reading.now)) }
+    ensures text_prefix { OnErr result (HasGotPrefix (O.got out.old) (O.got out.new) (text_for command reading.now)) }
+    ensures later { (F.faults store.old ≤ F.faults store.new) × (O.faults out.old ≤ O.faults out.new) }
+    ensures cause { IfErr result (λ stop. stop ≡ RunStop.WriteFault → Rose (F.faults store.old) (F.faults store.new) ⊎ Rose (O.faults out.old) (O.faults out.new)) }
+{
+    match command {
+        Command::Run => simulate(alloc, &reading.built, store, out),
+        Command::Check => write_sizes(alloc, &reading.whole, out),
     }
 }

@@ -12,9 +12,10 @@ ghost use Rattle.sim_run.specs.Output.{HasFiles, HasFilePrefixes, HasGot, HasGot
 ghost use Rattle.sim_run.specs.Growth.{HasNewFile};
 
 use crate::files::captured_bytes;
-use crate::output::{append_all, write_all};
+use crate::output::append_all;
+use crate::stop::{RunStop, stopped, write_text};
 use crate::summary::summary;
-use outside::{Sink, StoreStop, TraceStore};
+use outside::{Sink, TraceStore};
 use path_kernel::{World, run_scenario};
 use path_scenario::Scenario;
 use pcap_form::write_head;
@@ -23,13 +24,6 @@ use std::alloc::Global;
 
 /// The link type of PPP.
 const PPP: u32 = 9;
-
-/// Why a run was not written whole.
-#[derive(Clone, Copy, Debug, PartialEq, Eq)]
-pub enum RunStop {
-    WriteFault,
-    NoMemory,
-}
 
 /// Runs a scenario: the files first, and the summary last.
 pub fn simulate<F: TraceStore, O: Sink>(
@@ -54,10 +48,7 @@ pub fn simulate<F: TraceStore, O: Sink>(
     let Ok(text) = summary(alloc, &world) else {
         return Err(RunStop::NoMemory);
     };
-    match write_all(out, text.as_bytes()) {
-        Ok(()) => Ok(()),
-        Err(stop) => Err(stopped(stop)),
-    }
+    write_text(out, text.as_str())
 }
 
 /// Makes the capture file, runs the scenario, and writes what was captured.
@@ -119,14 +110,4 @@ fn capture_head(alloc: Global) -> Result<Vec<u8>, NoMemory>
     let mut head = Vec::new(alloc);
     write_head(PPP, &mut head)?;
     Ok(head)
-}
-
-/// The stop of a run whose store or sink stopped.
-fn stopped(stop: StoreStop) -> RunStop
-    ensures { result ≡ RunStop.WriteFault → stop ≡ StoreStop.Failed }
-{
-    match stop {
-        StoreStop::Failed => RunStop::WriteFault,
-        StoreStop::NoMemory => RunStop::NoMemory,
-    }
 }

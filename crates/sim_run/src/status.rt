@@ -1,7 +1,7 @@
 //! The answers of a run.
 
 use crate::command::WordFault;
-use path_form::Refusal;
+use scenario_form::Refusal;
 
 /// How a run of the program ended.
 #[derive(Clone, Copy, Debug, PartialEq, Eq)]
