@@ -1,0 +1,72 @@
+//! Times the Internet checksum over 1,500 bytes: `sum_bench words TIMES` sums them TIMES times as the
+//! headers do, by words of eight bytes, and writes the checksum of all of them. `sum_bench bytes TIMES`
+//! does the same a byte at a time.
+#![tactic(auto)]
+
+use anyhow::{Context, Result, bail};
+use header_forms::Sum;
+use std::env;
+
+/// The bytes of a full Ethernet payload.
+const SIZE: usize = 1500;
+
+fn main(rt: HostRuntime) -> Result<()> {
+    let mut words = env::args(&rt)?;
+    let _program = words.next();
+    let what = words.next().context("words or bytes is missing")?;
+    let times = words.next().context("TIMES is missing")?;
+    let times = times.as_str().parse::<u32>().context("TIMES")?;
+    let bytes = payload();
+    let checksum = match what.as_str() {
+        "words" => by_words(&bytes, times),
+        "bytes" => by_bytes(&bytes, times),
+        _ => bail!("neither words nor bytes"),
+    };
+    println!(rt; "checksum {checksum:04x}")?;
+    Ok(())
+}
+
+/// Bytes of many values.
+fn payload() -> [u8; SIZE] {
+    let mut bytes = [0; SIZE];
+    for (i, byte) in bytes.iter_mut().enumerate() {
+        *byte = (i % 251) as u8;
+    }
+    bytes
+}
+
+fn by_words(bytes: &[u8], times: u32) -> u16 {
+    let mut sum = Sum::start();
+    for _ in 0..times {
+        sum.add(bytes);
+    }
+    sum.finish()
+}
+
+fn by_bytes(bytes: &[u8], times: u32) -> u16 {
+    let mut sum = 0;
+    for _ in 0..times {
+        sum = with_each(sum, bytes);
+    }
+    u16::MAX - sum
+}
+
+fn with_each(start: u16, bytes: &[u8]) -> u16 {
+    let mut sum = start;
+    let mut odd = false;
+    for byte in bytes {
+        sum = if odd {
+            add_around(sum, u16::from(*byte))
+        } else {
+            add_around(sum, u16::from(*byte) * 256)
+        };
+        odd = !odd;
+    }
+    sum
+}
+
+/// Adds in one's complement: the carry comes in at the end.
+fn add_around(a: u16, b: u16) -> u16 {
+    let total = u32::from(a) + u32::from(b);
+    (total % 65_536 + total / 65_536) as u16
+}
