@@ -34,18 +34,18 @@ begun opener mss =
     }
 
 -- an opener sends its SYN
-abbrev pub opening : ℕ → ℕ → Stepped
+unfoldable pub opening : ℕ → ℕ → Stepped
 opening now mss = sent now true false 0 (begun true mss)
 
 -- the SYN of a new connection is answered by one with an acknowledgement
-abbrev pub heard_syn : ℕ → Stepped
+unfoldable pub heard_syn : ℕ → Stepped
 heard_syn now = sent now true false 0 (begun false 9000)
 
 abbrev pub with_bytes : List ℕ → Connection → Connection
 with_bytes bytes c = record c { buffer = c.buffer ++ take (room c) bytes }
 
-abbrev pub writes : ℕ → List ℕ → Connection → Stepped
+unfoldable pub writes : ℕ → List ℕ → Connection → Stepped
 writes now bytes c = pumped now (with_bytes bytes c)
 
-abbrev pub closes : ℕ → Connection → Stepped
+unfoldable pub closes : ℕ → Connection → Stepped
 closes now c = pumped now (record c { closing = true })

@@ -177,7 +177,7 @@ hears_in Closed now s bytes c = silently c
 hears_in other now s bytes c = in_later_states now s bytes c
 
 -- a segment comes
-abbrev pub hears : ℕ → Heard → List ℕ → Connection → Stepped
+unfoldable pub hears : ℕ → Heard → List ℕ → Connection → Stepped
 hears now s bytes c = hears_in c.phase now s bytes c
 
 -- the retransmission timer fires (3.10.8)
@@ -199,7 +199,7 @@ timed_out c =
       nxt = c.una;
     }
 
-abbrev pub times_out : ℕ → Connection → Stepped
+unfoldable pub times_out : ℕ → Connection → Stepped
 times_out now c =
     if not c.timer then silently c
     else (if nat_le 12 c.tries then reset c else and_then (sent_again now c.phase (timed_out c)) (timer_restarted now))

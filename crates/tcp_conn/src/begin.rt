@@ -49,6 +49,7 @@ impl Connection {
     }
 
     /// Opens a connection: its SYN is sent.
+    #[tactic(auto, unfolding(crate::specs::Begin::opening))]
     pub fn open(
         alloc: Global,
         now: Time,
@@ -68,6 +69,7 @@ impl Connection {
     }
 
     /// Answers the SYN of a new connection on a listening port.
+    #[tactic(auto, unfolding(crate::specs::Begin::heard_syn))]
     pub fn accept(alloc: Global, now: Time, out: &mut Vec<Effect>) -> Result<Connection, NoMemory>
         requires { now.0 ≤ 2 ^ 60 }
         ensures now { IfOk result (λ c. c ≡ (heard_syn now.0).now) }
@@ -80,6 +82,7 @@ impl Connection {
     }
 
     /// Takes as many bytes as there is room for, sends what may be sent.
+    #[tactic(auto, unfolding(crate::specs::Begin::writes))]
     pub fn write(
         &mut self,
         alloc: Global,
@@ -114,6 +117,7 @@ impl Connection {
     }
 
     /// Nothing more will be written.
+    #[tactic(auto, unfolding(crate::specs::Begin::closes))]
     pub fn close(&mut self, now: Time, out: &mut Vec<Effect>) -> Result<(), NoMemory>
         requires time { now.0 ≤ 2 ^ 60 }
         requires fits { Fits self.old }

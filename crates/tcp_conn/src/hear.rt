@@ -12,6 +12,7 @@ use tcp_reno::Reno;
 
 impl Connection {
     /// Takes a segment. After `NoMemory` the connection and `out` are given up.
+    #[tactic(auto, unfolding(crate::specs::Step::hears))]
     pub fn hears(
         &mut self,
         alloc: Global,

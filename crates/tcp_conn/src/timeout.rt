@@ -15,6 +15,7 @@ const TRIES: u32 = 12;
 
 impl Connection {
     /// The timer fires. After `NoMemory` the connection and `out` are given up.
+    #[tactic(auto, unfolding(crate::specs::Step::times_out))]
     pub fn times_out(
         &mut self,
         alloc: Global,
