@@ -2,7 +2,7 @@
 
 use crate::scenarios::{ECHO, TWO_DATAGRAMS};
 use outside::{MemSink, MemSource, MemStore};
-use sim_run::{Refusal, Status, WordCode, WordFault, run_program};
+use sim_run::{Code, Place, Refusal, Status, WordCode, WordFault, run_program};
 use std::alloc::Global;
 use std::process::Abort;
 
@@ -11,6 +11,10 @@ const SUMMARY: &str = "events 6
 drops 0
 app 0 udp-sink sent 0 0 received 2 140
 app 1 udp-send sent 2 140 received 0 0
+";
+
+/// What the sink gets of a check.
+const SIZES: &str = "nodes 2 links 1 lans 0 routes 0 apps 2 losses 0
 ";
 
 /// The head of the packet that is captured at 0 s.
@@ -70,10 +74,16 @@ fn assert_refused(rt: &impl Abort, alloc: Global, words: &[&str], place: u32, co
     );
 }
 
-/// Asserts that these bytes are refused, and that no file was made.
-fn assert_no_scenario(rt: &impl Abort, alloc: Global, input: &[u8], refusal: Refusal) {
+/// Asserts that a command refuses these bytes, and that it makes no file.
+fn assert_no_scenario(
+    rt: &impl Abort,
+    alloc: Global,
+    command: &str,
+    input: &[u8],
+    refusal: Refusal,
+) {
     let refused = Status::Scenario(refusal);
-    let (store, _sink) = run(rt, alloc, &["run"], input, (&[], &[]), refused);
+    let (store, _sink) = run(rt, alloc, &[command], input, (&[], &[]), refused);
     assert!(rt; store.files().is_empty());
 }
 
@@ -93,6 +103,14 @@ fn two_datagrams_are_captured_and_counted(rt: HostRuntime) {
     assert!(rt; bytes.get(140..156) == Some(SECOND_HEAD.as_slice()));
     assert!(rt; bytes[163] == 1 && bytes[168] == 0x64 && bytes[169] == 0x86);
     assert!(rt; sink.bytes() == SUMMARY.as_bytes());
+}
+
+#[test]
+fn a_check_writes_the_sizes_of_a_scenario(rt: HostRuntime) {
+    let input = TWO_DATAGRAMS.as_bytes();
+    let (store, sink) = run(&rt, rt.alloc(), &["check"], input, (&[], &[]), Status::Done);
+    assert!(rt; store.files().is_empty());
+    assert!(rt; sink.bytes() == SIZES.as_bytes());
 }
 
 #[test]
@@ -122,20 +140,39 @@ fn a_failed_read_makes_no_file(rt: HostRuntime) {
 
 #[test]
 fn an_echo_server_is_not_built_yet(rt: HostRuntime) {
-    assert_no_scenario(&rt, rt.alloc(), ECHO.as_bytes(), Refusal::NotBuilt);
+    let input = ECHO.as_bytes();
+    assert_no_scenario(&rt, rt.alloc(), "run", input, Refusal::NotBuilt);
+    assert_no_scenario(&rt, rt.alloc(), "check", input, Refusal::NotBuilt);
+}
+
+#[test]
+fn a_refusal_of_the_language_comes_before_one_of_the_form(rt: HostRuntime) {
+    let input = ECHO
+        .replace(rt.alloc(), "rate_bps = 5000000", "rate_bps = 5000000.0")
+        .expect(&rt, "memory");
+    let place = Place {
+        section: 1,
+        index: 0,
+        field: 6,
+    };
+    let refusal = Refusal::Schema {
+        place,
+        code: Code::WrongType,
+    };
+    assert_no_scenario(&rt, rt.alloc(), "run", input.as_bytes(), refusal);
 }
 
 #[test]
 fn a_document_that_is_cut_off_is_no_toml(rt: HostRuntime) {
     let input = b"format = 1\n[[link".as_slice();
-    assert_no_scenario(&rt, rt.alloc(), input, Refusal::NotToml);
+    assert_no_scenario(&rt, rt.alloc(), "run", input, Refusal::NotToml);
 }
 
 #[test]
 fn one_byte_past_the_limit_is_too_long(rt: HostRuntime) {
     let input = vec![in rt.alloc(); b'#'; 16_777_217].expect(&rt, "memory");
     let refusal = Refusal::TooLong { taken: 16_777_217 };
-    assert_no_scenario(&rt, rt.alloc(), input.as_slice(), refusal);
+    assert_no_scenario(&rt, rt.alloc(), "run", input.as_slice(), refusal);
 }
 
 #[test]
@@ -147,6 +184,13 @@ fn faulty_words_are_named_by_place_and_code(rt: HostRuntime) {
         &rt,
         rt.alloc(),
         &["run", "workers=2"],
+        2,
+        WordCode::UnknownKey,
+    );
+    assert_refused(
+        &rt,
+        rt.alloc(),
+        &["check", "workers=2"],
         2,
         WordCode::UnknownKey,
     );
