@@ -17,3 +17,6 @@ pub use begin::SINK_MSS;
 pub use connection::{Connection, Phase, Timed};
 pub use round_trip::RoundTrip;
 pub use words::{Effect, Heard, Outgoing};
+
+#[cfg(test)]
+mod tests;
