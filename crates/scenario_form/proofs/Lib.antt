@@ -8,3 +8,6 @@ pub mod FoundLaws
 pub mod LossSteps
 pub mod Counted
 pub mod AnswerSteps
+pub mod FieldNumbers
+pub mod HeldNumbers
+pub mod Within

@@ -1,6 +1,13 @@
 -- The limits that an accepted scenario keeps.
-use Rattle.std.specs.Prelude.{◌≤◌, length, codes}
+use Rattle.std.specs.Prelude.{◌≡◌, ℕ, ◌≤◌, ◌<◌, length, All, IfSome, codes}
 use Rattle.toml.specs.Data.{Members}
+use Rattle.sim_base.specs.declared.time.Time.{Time}
+use Rattle.sim_base.specs.declared.time.Rate.{Rate}
+use Rattle.scenario_form.specs.declared.scenario.Link.{Link}
+use Rattle.scenario_form.specs.declared.scenario.Lan.{Lan}
+use Rattle.scenario_form.specs.declared.scenario.Route.{Route}
+use Rattle.scenario_form.specs.declared.scenario.App.{App}
+use Rattle.scenario_form.specs.declared.scenario.Loss.{Loss}
 use Rattle.scenario_form.specs.declared.scenario.Scenario.{Scenario}
 use Rattle.scenario_form.specs.Values.{tables_at}
 
@@ -19,3 +26,81 @@ pub record HasFew (s : Scenario) : Type 0 where
   pub routes : length s.routes ≤ 10000
   pub apps : length s.apps ≤ 4000
   pub losses : length s.losses ≤ 1000
+
+-- a number from the least to the most
+pub record IsFromTo (least most n : ℕ) : Type 0 where
+  pub from : least ≤ n
+  pub to : n ≤ most
+
+-- a rate that a scenario may have
+abbrev pub IsRate : Rate → Type 0
+IsRate r = IsFromTo 1 1000000000000 r.0
+
+-- a time that a scenario may have, from so many nanoseconds on
+abbrev pub IsTimeFrom : ℕ → Time → Type 0
+IsTimeFrom least t = IsFromTo least 1000000000000 t.0
+
+-- a link's numbers, where there are so many nodes
+pub record IsLink (nodes : ℕ) (l : Link) : Type 0 where
+  pub a : l.a.0 < nodes
+  pub b : l.b.0 < nodes
+  pub prefix : IsFromTo 8 30 l.prefix
+  pub rate_bps : IsRate l.rate_bps
+  pub delay_ns : IsTimeFrom 0 l.delay_ns
+  pub mtu : IsFromTo 68 65535 l.mtu
+  pub cost : IsFromTo 1 65535 l.cost
+  pub limit : IsFromTo 1 100000 l.limit
+  pub tbf_bps : IfSome l.tbf_bps IsRate
+  pub tbf_burst : IfSome l.tbf_burst (IsFromTo 1 1000000000)
+
+-- a LAN's members and numbers
+pub record IsLan (nodes : ℕ) (l : Lan) : Type 0 where
+  pub members : IsFromTo 2 200 (length l.members)
+  pub below : All (λ member. member.0 < nodes) l.members
+  pub addrs : length l.addrs ≡ length l.members
+  pub prefix : IsFromTo 8 30 l.prefix
+  pub rate_bps : IsRate l.rate_bps
+  pub delay_ns : IsTimeFrom 0 l.delay_ns
+  pub mtu : IsFromTo 68 65535 l.mtu
+  pub cost : IsFromTo 1 65535 l.cost
+  pub limit : IsFromTo 1 100000 l.limit
+  pub tbf_bps : IfSome l.tbf_bps IsRate
+  pub tbf_burst : IfSome l.tbf_burst (IsFromTo 1 1000000000)
+
+-- a route's numbers
+pub record IsRoute (nodes : ℕ) (r : Route) : Type 0 where
+  pub node : r.node.0 < nodes
+  pub prefix : IsFromTo 0 30 r.prefix
+
+-- an application's numbers, of which its kind may lack some
+pub record IsApp (nodes : ℕ) (a : App) : Type 0 where
+  pub node : a.node.0 < nodes
+  pub port : IfSome a.port (IsFromTo 1 49152)
+  pub start_ns : IsTimeFrom 0 a.start_ns
+  pub count : IsFromTo 1 1000000000 a.count
+  pub interval_ns : IsTimeFrom 1 a.interval_ns
+  pub size : IsFromTo 0 65507 a.size
+  pub priority : IsFromTo 0 15 a.priority
+  pub rate_bps : IfSome a.rate_bps IsRate
+  pub on_ns : IfSome a.on_ns (IsTimeFrom 1)
+  pub off_ns : IfSome a.off_ns (IsTimeFrom 0)
+  pub bytes : IfSome a.bytes (IsFromTo 0 1073741824)
+  pub mss : IsFromTo 64 9000 a.mss
+
+-- a loss's numbers
+pub record IsLoss (nodes : ℕ) (l : Loss) : Type 0 where
+  pub node : l.node.0 < nodes
+  pub millionths : IfSome l.millionths (IsFromTo 0 1000000)
+
+-- a scenario within the limits
+pub record IsWithinLimits (s : Scenario) : Type 0 where
+  pub nodes : IsFromTo 1 1000 s.nodes
+  pub stop_ns : IsTimeFrom 0 s.stop_ns
+  pub seed : IsFromTo 0 9007199254740992 s.seed
+  pub events_per_node : IsFromTo 1 1000000000 s.events_per_node
+  pub few : HasFew s
+  pub links : All (IsLink s.nodes) s.links
+  pub lans : All (IsLan s.nodes) s.lans
+  pub routes : All (IsRoute s.nodes) s.routes
+  pub apps : All (IsApp s.nodes) s.apps
+  pub losses : All (IsLoss s.nodes) s.losses
