@@ -7,3 +7,4 @@ pub mod JoinLaws
 pub mod RankLaws
 pub mod PairLaws
 pub mod AutoLaws
+pub mod TestLaws

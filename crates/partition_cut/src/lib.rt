@@ -7,6 +7,8 @@ mod automatic;
 mod counting;
 mod lookahead;
 mod network;
+#[cfg(test)]
+mod tests;
 mod verdict;
 mod whole;
 
