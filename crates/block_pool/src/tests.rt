@@ -1,23 +1,18 @@
 use crate::{Class, Pool};
-use std::test::Fail;
 
 #[test]
-fn spare_blocks_are_taken_first(rt: HostRuntime) -> Result<(), Fail> {
+fn a_spare_block_is_empty(rt: HostRuntime) {
     let mut pool = Pool::make(rt.alloc());
-    pool.reserve(Class::Small, 2)?;
-    let first = pool.take(Class::Small)?;
-    let second = pool.take(Class::Small)?;
-    let third = pool.take(Class::Small)?;
-    assert!(rt; first.as_slice().is_empty());
-    assert!(rt; second.as_slice().is_empty());
-    assert!(rt; third.as_slice().is_empty());
-    pool.reserve(Class::Small, 1)?;
-    pool.reserve(Class::Middle, 1)?;
-    let small = pool.make_in(&[7; 48])?;
-    let middle = pool.make_in(&[8; 49])?;
-    assert_eq!(rt; small.as_slice(), [7; 48].as_slice());
-    assert_eq!(rt; middle.as_slice(), [8; 49].as_slice());
-    Ok(())
+    pool.reserve(Class::Small, 1).expect(&rt, "memory");
+    let spare = pool.take(Class::Small).expect(&rt, "memory");
+    assert!(rt; spare.as_slice().is_empty());
+}
+
+#[test]
+fn a_block_is_made_of_bytes(rt: HostRuntime) {
+    let mut pool = Pool::make(rt.alloc());
+    let window = pool.make_in(&[1, 2, 3]).expect(&rt, "memory");
+    assert_eq!(rt; window.as_slice(), [1, 2, 3].as_slice());
 }
 
 #[test]
