@@ -8,8 +8,8 @@ use Rattle.std.specs.List.{AllByRecursion, IsDistinct}
 use Rattle.std.specs.List.Sorted.{IsPermutation}
 use Rattle.std.specs.declared.cmp.Reverse.{Reverse}
 use Rattle.sim_base.specs.declared.key.Key.{Key}
-use Rattle.sim_base.specs.KeyOrder.{before}
-use Rattle.event_queue.specs.Pending.{key_of, insert_by, first_key, IsNew, IsRising}
+use Rattle.sim_base.specs.KeyOrder.{before, insert_by, IsRising}
+use Rattle.event_queue.specs.Pending.{key_of, first_key, IsNew}
 use Rattle.event_queue.specs.Heap.{entry_of, in_order, entries_in_order, ties, element_cmp, IsHeapOfKeys}
 use Rattle.event_queue.proofs.InOrder.{ties-flip, ties-other, ties-differ, all-weaken, all-in_order, all-of_in_order, insert-first, rising-in_order, in_order-permutation}
 use Rattle.event_queue.proofs.KeyOrdering.{not_less-before}

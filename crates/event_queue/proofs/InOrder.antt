@@ -6,9 +6,8 @@ use Rattle.std.proofs.lemmas.List.Sorted.{All-permutation, IsPermutation-sym}
 use Rattle.std.specs.List.{AllByRecursion, IsDistinct}
 use Rattle.std.specs.List.Sorted.{IsPermutation}
 use Rattle.sim_base.specs.declared.key.Key.{Key}
-use Rattle.sim_base.specs.KeyOrder.{before}
+use Rattle.sim_base.specs.KeyOrder.{before, insert_by, IsRising}
 use Rattle.sim_base.proofs.KeyLaws.{before-not_back, before-trans, before-total}
-use Rattle.event_queue.specs.Pending.{insert_by, IsRising}
 use Rattle.event_queue.specs.Heap.{in_order, ties}
 
 -- ---- keys that differ

@@ -5,9 +5,9 @@ use Rattle.std.proofs.lemmas.Bool.Decides.{eqb_tells}
 use Rattle.std.specs.List.{AllByRecursion, IsDistinct}
 use Rattle.sim_base.specs.declared.key.Key.{Key}
 use Rattle.sim_base.specs.declared.time.Time.{Time}
-use Rattle.sim_base.specs.KeyOrder.{before}
+use Rattle.sim_base.specs.KeyOrder.{before, insert_by, IsRising}
 use Rattle.sim_base.proofs.KeyLaws.{before-time}
-use Rattle.event_queue.specs.Pending.{key_of, insert_by, first_key, IsRising, NoneBelow}
+use Rattle.event_queue.specs.Pending.{key_of, first_key, NoneBelow}
 use Rattle.event_queue.specs.Loads.{events_at, HoldsLoads}
 use Rattle.event_queue.proofs.InOrder.{all-weaken, all-insert}
 

@@ -2,7 +2,8 @@
 use Rattle.std.proofs.Common.{◌≡◌, ℕ, ◌+◌, ◌<◌, List, [], ◌∷◌, ap, arith}
 use Rattle.std.specs.List.{AllByRecursion}
 use Rattle.sim_base.specs.declared.key.Key.{Key}
-use Rattle.event_queue.specs.Pending.{key_of, insert_by, IsNew}
+use Rattle.event_queue.specs.Pending.{key_of, IsNew}
+use Rattle.sim_base.specs.KeyOrder.{insert_by}
 use Rattle.event_queue.proofs.InOrder.{all-weaken, all-insert}
 
 module _ {Load : Type 0} where

@@ -6,8 +6,8 @@ use Rattle.std.specs.Prelude.{ℕ, Bool, not, List, [], ◌∷◌, map, ◌||◌
 use Rattle.std.specs.declared.cmp.Ordering.{Ordering}
 use Rattle.std.specs.declared.cmp.Reverse.{Reverse}
 use Rattle.sim_base.specs.declared.key.Key.{Key}
-use Rattle.sim_base.specs.KeyOrder.{before}
-use Rattle.event_queue.specs.Pending.{key_of, insert_by}
+use Rattle.sim_base.specs.KeyOrder.{before, insert_by}
+use Rattle.event_queue.specs.Pending.{key_of}
 
 -- an entry of the heap, whose greatest element has the least key
 abbrev pub entry_of : Reverse Key × ℕ → Key × ℕ

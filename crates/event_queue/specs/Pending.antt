@@ -1,19 +1,8 @@
 -- Pending events: pairs of a key and a load, in the order of their keys.
 use Rattle.std.specs.List.{AllByRecursion}
-use Rattle.std.specs.Prelude.{◌≡◌, ◌≢◌, ◌≤◌, true, List, [], ◌∷◌, Option, Some, None, if◌then◌else◌}
+use Rattle.std.specs.Prelude.{◌≢◌, ◌≤◌, List, [], ◌∷◌, Option, Some, None}
 use Rattle.sim_base.specs.declared.key.Key.{Key}
 use Rattle.sim_base.specs.declared.time.Time.{Time}
-use Rattle.sim_base.specs.KeyOrder.{before}
-
--- puts an item into a list in the order of keys, behind those of its own key
-unfoldable pub insert_by : {A : Type 0} → (A → Key) → A → List A → List A
-insert_by key x [] = x ∷ []
-insert_by key x (y ∷ ys) = if before (key x) (key y) then x ∷ y ∷ ys else y ∷ insert_by key x ys
-
--- each key of a list comes before all that follow
-abbrev pub IsRising : {A : Type 0} → (A → Key) → List A → Type 0
-IsRising key [] = Unit {0}
-IsRising key (x ∷ xs) = AllByRecursion (λ y. before (key x) (key y) ≡ true) xs × IsRising key xs
 
 module _ {Load : Type 0} where
   -- the key of an event

@@ -1,7 +1,8 @@
 //! The keys of the pending events, each with the place at which the event's load is kept.
 
 ghost use Rattle.std.specs.Prelude.{◌≡◌, [], ◌∷◌, OnOk, OnErr, IfNone, IfSome};
-ghost use Rattle.event_queue.specs.Pending.{key_of, insert_by, first_key, IsNew, IsRising};
+ghost use Rattle.event_queue.specs.Pending.{key_of, first_key, IsNew};
+ghost use Rattle.sim_base.specs.KeyOrder.{insert_by, IsRising};
 
 use sim_base::{Key, NoMemory};
 use std::alloc::Global;

@@ -1,7 +1,8 @@
 //! The queue of pending events.
 
 ghost use Rattle.std.specs.Prelude.{◌≡◌, ◌<◌, [], ◌∷◌, OnOk, OnErr, IfNone, IfSome};
-ghost use Rattle.event_queue.specs.Pending.{key_of, insert_by, first_key, IsNew, IsRising, NoneBelow};
+ghost use Rattle.event_queue.specs.Pending.{key_of, first_key, IsNew, NoneBelow};
+ghost use Rattle.sim_base.specs.KeyOrder.{insert_by, IsRising};
 
 use crate::agenda::Agenda;
 use sim_base::{Key, NoMemory, Time};

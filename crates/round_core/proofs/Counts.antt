@@ -3,8 +3,7 @@ use Rattle.std.proofs.Common.{◌≡◌, ℕ, ◌<◌, ◌≤◌, zero, suc, len
 use Rattle.std.proofs.lemmas.Bool.{le-ltb, lt-ltb}
 use Rattle.std.proofs.lemmas.List.{append-nil}
 use Rattle.std.specs.List.{AllByRecursion}
-use Rattle.sim_base.specs.KeyOrder.{before}
-use Rattle.round_core.specs.Order.{IsRising}
+use Rattle.sim_base.specs.KeyOrder.{before, IsRising}
 use Rattle.round_core.specs.World.{Event, Firing, Rules, World, Ready, first, next, after, after_next, fire, IsPast}
 use Rattle.round_core.specs.Rounds.{below, plain_firings, Ending, Done, Limited, ending_at, PlainEnds, Cut, IsAllowed, IsRound, RunsInRounds, Ends, Stops, Goes_on, windows, times_of, firings_of, IsPrefixOf}
 use Rattle.round_core.specs.Laws.{Health, IsSound, IsLawful}

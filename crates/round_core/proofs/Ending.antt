@@ -3,7 +3,8 @@ use Rattle.std.proofs.Common.{◌≡◌, ℕ, ◌<◌, ◌≤◌, ◌+◌, zero,
 use Rattle.std.proofs.lemmas.Bool.{cases_Bool, cases_eq, ne_eqb}
 use Rattle.std.proofs.lemmas.Bool.Decides.{nat_tests}
 use Rattle.sim_base.specs.declared.key.Key.{Key}
-use Rattle.round_core.specs.Order.{insert_by, insert_each}
+use Rattle.round_core.specs.Order.{insert_each}
+use Rattle.sim_base.specs.KeyOrder.{insert_by}
 use Rattle.round_core.specs.World.{Event, Send, Rules, World, Ready, first, without_first, scheduled, next, after, fire, Rests}
 use Rattle.round_core.specs.Rounds.{Ending, PlainEnds, below, plain_firings, IsPlainRun}
 use Rattle.round_core.specs.Laws.{Health, IsHealthy, IsSound, IsLawful}

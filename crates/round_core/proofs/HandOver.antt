@@ -4,8 +4,7 @@ use Rattle.std.proofs.lemmas.Bool.{cases_Bool, eq-eqb, eqb-true}
 use Rattle.std.proofs.lemmas.List.Sums.{length-filter}
 use Rattle.std.specs.List.{AllByRecursion}
 use Rattle.sim_base.specs.declared.key.Key.{Key}
-use Rattle.sim_base.specs.KeyOrder.{before}
-use Rattle.round_core.specs.Order.{IsRising}
+use Rattle.sim_base.specs.KeyOrder.{before, IsRising}
 use Rattle.round_core.specs.World.{Event, Firing, Rules, World, Ready, first, next, reaction, after, after_next, fire, ready, IsPast, unlogged, with_log}
 use Rattle.round_core.specs.Rounds.{below, plain_firings, fired_by}
 use Rattle.round_core.specs.Parts.{IsIn, Part, AreParts, AreMerged, AreHandedOver}

@@ -2,9 +2,8 @@
 use Rattle.std.proofs.Common.{◌≡◌, true, false, List, [], ◌∷◌, refl, sym, ap, inl, inr}
 use Rattle.std.proofs.lemmas.Bool.{cases_Bool}
 use Rattle.sim_base.specs.declared.key.Key.{Key}
-use Rattle.sim_base.specs.KeyOrder.{before}
+use Rattle.sim_base.specs.KeyOrder.{before, insert_by}
 use Rattle.sim_base.proofs.KeyLaws.{before-not_back, before-up, before-total}
-use Rattle.round_core.specs.Order.{insert_by}
 
 pub insert-here : {A : Type 0} (key_of : A → Key) (x y : A) (ys : List A) → before (key_of x) (key_of y) ≡ true →
     insert_by key_of x (y ∷ ys) ≡ x ∷ y ∷ ys

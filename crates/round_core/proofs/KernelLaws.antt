@@ -2,8 +2,7 @@
 use Rattle.std.proofs.Common.{◌≡◌, ℕ, ◌<◌, ◌≤◌, zero, suc, filter, length, true, List, [], ◌∷◌, ◌++◌, refl, sym, ap, ◌∙◌, subst, arith, ◌⊎◌, Option, Some, None, append_assoc}
 use Rattle.std.proofs.lemmas.List.{append-nil}
 use Rattle.sim_base.specs.declared.key.Key.{Key}
-use Rattle.sim_base.specs.KeyOrder.{before}
-use Rattle.round_core.specs.Order.{IsRising}
+use Rattle.sim_base.specs.KeyOrder.{before, IsRising}
 use Rattle.round_core.specs.World.{Event, Firing, Rules, World, first, in_order, IsPast, unlogged, with_log}
 use Rattle.round_core.specs.Rounds.{below, plain_firings, Done, Limited, ending_at, PlainEnds, Cut, IsAllowed, IsRound, group_firings, IsFull, windows, times_of, fired_by, Stops, firings_of}
 use Rattle.round_core.specs.Laws.{Health, IsSound, IsLawful, IsClosed}

@@ -3,8 +3,7 @@ use Rattle.std.proofs.Common.{◌≡◌, ℕ, ◌<◌, ◌≤◌, suc, length, t
 use Rattle.std.proofs.lemmas.Bool.Decides.{nat_tests}
 use Rattle.std.specs.List.{AllByRecursion}
 use Rattle.sim_base.specs.declared.key.Key.{Key}
-use Rattle.sim_base.specs.KeyOrder.{before, earlier, numbers}
-use Rattle.round_core.specs.Order.{IsRising}
+use Rattle.sim_base.specs.KeyOrder.{before, earlier, numbers, IsRising}
 use Rattle.round_core.specs.World.{Firing, Rules, World}
 use Rattle.round_core.specs.Parts.{IsIn, Part, AreParts}
 use Rattle.round_core.specs.Lines.{Line, numbered, lines_of, line_before, LinesRise, AreMergedLines}

@@ -4,8 +4,8 @@ use Rattle.std.proofs.lemmas.Bool.{cases_Bool}
 use Rattle.std.proofs.lemmas.List.{append-nil}
 use Rattle.std.specs.List.{AllByRecursion}
 use Rattle.sim_base.specs.declared.key.Key.{Key}
-use Rattle.sim_base.specs.KeyOrder.{before}
-use Rattle.round_core.specs.Order.{insert_by, insert_each, in_key_order, IsRising}
+use Rattle.sim_base.specs.KeyOrder.{before, insert_by, IsRising}
+use Rattle.round_core.specs.Order.{insert_each, in_key_order}
 use Rattle.round_core.specs.World.{Event, Send, first, without_first, scheduled}
 use Rattle.sim_base.proofs.KeyLaws.{before-not_back, before-up, before-total, before-chain}
 use Rattle.round_core.proofs.InsertLaws.{insert_insert}

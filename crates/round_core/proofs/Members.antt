@@ -3,8 +3,8 @@ use Rattle.std.proofs.Common.{◌≡◌, filter, Bool, true, false, List, [], �
 use Rattle.std.proofs.lemmas.Bool.{cases_Bool}
 use Rattle.std.specs.List.{AllByRecursion}
 use Rattle.sim_base.specs.declared.key.Key.{Key}
-use Rattle.sim_base.specs.KeyOrder.{before}
-use Rattle.round_core.specs.Order.{insert_by, insert_each, IsRising}
+use Rattle.sim_base.specs.KeyOrder.{before, insert_by, IsRising}
+use Rattle.round_core.specs.Order.{insert_each}
 use Rattle.round_core.specs.Parts.{IsIn}
 use Rattle.round_core.specs.World.{Event, first, without_first}
 use Rattle.sim_base.proofs.KeyLaws.{before-not_back, before-trans}

@@ -4,7 +4,8 @@ use Rattle.std.specs.List.{AllByRecursion}
 use Rattle.sim_base.specs.declared.key.Key.{Key}
 use Rattle.round_core.specs.Laws.{Health, IsSound}
 use Rattle.round_core.specs.Opening.{opening, HaveOwnKeys, IsOpening}
-use Rattle.round_core.specs.Order.{IsRising, insert_by, insert_each}
+use Rattle.round_core.specs.Order.{insert_each}
+use Rattle.sim_base.specs.KeyOrder.{IsRising, insert_by}
 use Rattle.round_core.specs.World.{Event, Rules, IsPast}
 use Rattle.round_core.proofs.ListLaws.{all-insert, all-insert_each, rising-insert}
 use Rattle.round_core.proofs.Members.{all-in}

@@ -3,8 +3,8 @@ use Rattle.std.proofs.Common.{◌≡◌, ℕ, ◌<◌, ◌≤◌, zero, suc, fil
 use Rattle.std.proofs.lemmas.Bool.{cases_Bool, cases_eq, eq-eqb, ne_eqb, eqb-true, not-true}
 use Rattle.std.specs.List.{AllByRecursion}
 use Rattle.sim_base.specs.declared.key.Key.{Key}
-use Rattle.sim_base.specs.KeyOrder.{before}
-use Rattle.round_core.specs.Order.{insert_by, insert_each, IsRising}
+use Rattle.sim_base.specs.KeyOrder.{before, insert_by, IsRising}
+use Rattle.round_core.specs.Order.{insert_each}
 use Rattle.round_core.specs.World.{Event, Firing, Rules, World, Ready, scheduled, first, without_first, next, after, IsPast}
 use Rattle.round_core.specs.Rounds.{below, in_group}
 use Rattle.round_core.specs.Laws.{Health, IsOwed, IsLawful, KeepsLans, IsClosed, BeginsAt}

@@ -3,8 +3,8 @@ use Rattle.std.proofs.Common.{◌≡◌, ℕ, zero, suc, Bool, true, false, List
 use Rattle.std.proofs.lemmas.Bool.{cases_Bool}
 use Rattle.std.proofs.lemmas.Bool.Decides.{nat_tests}
 use Rattle.sim_base.specs.declared.key.Key.{Key}
-use Rattle.sim_base.specs.KeyOrder.{before}
-use Rattle.round_core.specs.Order.{insert_each, IsRising}
+use Rattle.sim_base.specs.KeyOrder.{before, IsRising}
+use Rattle.round_core.specs.Order.{insert_each}
 use Rattle.round_core.specs.World.{Event, Reaction, Limit, Does, Rules, World, Ready, reaction, scheduled, first, without_first, allowed, ready, next, after, after_next, fire, Rests}
 use Rattle.round_core.specs.Rounds.{below, in_group, group_firings, plain_firings}
 use Rattle.sim_base.proofs.KeyLaws.{before-time}

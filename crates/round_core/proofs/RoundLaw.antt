@@ -5,8 +5,7 @@ use Rattle.std.proofs.lemmas.Bool.Decides.{nat_tests}
 use Rattle.std.proofs.lemmas.List.{append-nil}
 use Rattle.std.specs.List.{AllByRecursion}
 use Rattle.sim_base.specs.declared.key.Key.{Key}
-use Rattle.sim_base.specs.KeyOrder.{before}
-use Rattle.round_core.specs.Order.{IsRising}
+use Rattle.sim_base.specs.KeyOrder.{before, IsRising}
 use Rattle.round_core.specs.World.{Event, Firing, Limit, Rules, World, Ready, reaction, first, next, after, after_next, fire, Rests, in_order, IsPast}
 use Rattle.round_core.specs.Rounds.{below, group_firings, IsFull, plain_firings, IsPlainRun, Ending, Limited, ending_at, PlainEnds, Cut, IsAllowed, IsRound, RunsInRounds, Ends, Stops, Goes_on}
 use Rattle.round_core.specs.Laws.{Health, IsSound, IsLawful, KeepsLans, IsClosed, BeginsAt}

@@ -1,7 +1,8 @@
 -- What a firing finds, and a world whose firings are kept in the order of their keys.
 use Rattle.std.proofs.Common.{◌≡◌, Bool, List, [], ◌∷◌, ◌++◌, refl, ap, ◌∙◌, Option, Some, None}
 use Rattle.sim_base.specs.declared.key.Key.{Key}
-use Rattle.round_core.specs.Order.{insert_by, insert_each, in_key_order}
+use Rattle.round_core.specs.Order.{insert_each, in_key_order}
+use Rattle.sim_base.specs.KeyOrder.{insert_by}
 use Rattle.round_core.specs.World.{Event, Firing, Reaction, Limit, Does, Rules, World, Ready, reaction, first, allowed, ready, next, after, after_next, fire, in_order}
 
 -- what is ready is the first event that passes, and its target's effect

@@ -3,8 +3,8 @@ use Rattle.std.proofs.Common.{◌≡◌, ℕ, ◌<◌, ◌≤◌, ◌+◌, zero,
 use Rattle.std.proofs.lemmas.Bool.Decides.{nat_tests}
 use Rattle.std.specs.List.{AllByRecursion}
 use Rattle.sim_base.specs.declared.key.Key.{Key}
-use Rattle.sim_base.specs.KeyOrder.{before}
-use Rattle.round_core.specs.Order.{insert_each, IsRising}
+use Rattle.sim_base.specs.KeyOrder.{before, IsRising}
+use Rattle.round_core.specs.Order.{insert_each}
 use Rattle.round_core.specs.World.{Event, Firing, Limit, Rules, World, Ready, reaction, scheduled, first, without_first, next, after, after_next, fire, Rests, in_order, IsPast}
 use Rattle.round_core.specs.Rounds.{below, in_group, group_firings, IsFull, plain_firings}
 use Rattle.round_core.specs.Laws.{Health, IsSound, IsLawful, KeepsLans, IsClosed, BeginsAt}

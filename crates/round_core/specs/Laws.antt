@@ -1,7 +1,7 @@
 -- What must hold of a simulation's rules, and of a cut into groups.
 use Rattle.std.specs.List.{AllByRecursion}
 use Rattle.std.specs.Prelude.{◌≡◌, ℕ, ◌+◌, ◌<◌, ◌≤◌, true, length, ◌⊎◌}
-use Rattle.round_core.specs.Order.{IsRising}
+use Rattle.sim_base.specs.KeyOrder.{IsRising}
 use Rattle.round_core.specs.World.{Event, Effect, Rules, World, Does, reaction, scheduled}
 
 -- what a simulation keeps true of each node, each LAN and each event

@@ -2,7 +2,8 @@
 use Rattle.std.specs.List.{AllByRecursion}
 use Rattle.std.specs.Prelude.{◌≡◌, ℕ, ◌<◌, ◌≤◌, zero, suc, Bool, true, not, List, [], ◌∷◌, ◌++◌, filter, ◌⊎◌, ◌↔◌, ◌==◌, Option, Some, None}
 use Rattle.round_core.specs.Laws.{Health, IsHealthy}
-use Rattle.round_core.specs.Order.{IsRising, insert_each}
+use Rattle.round_core.specs.Order.{insert_each}
+use Rattle.sim_base.specs.KeyOrder.{IsRising}
 use Rattle.round_core.specs.Rounds.{below}
 use Rattle.round_core.specs.World.{Event, Firing, Rules, World, Ready, scheduled, without_first, next, after, Rests, IsPast}
 

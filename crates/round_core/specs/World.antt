@@ -2,8 +2,8 @@
 use Rattle.std.specs.List.{AllByRecursion}
 use Rattle.std.specs.Prelude.{◌≡◌, ℕ, suc, Bool, true, List, [], ◌∷◌, ◌++◌, Option, Some, None, ◌==◌, if◌then◌else◌}
 use Rattle.sim_base.specs.declared.key.Key.{Key}
-use Rattle.sim_base.specs.KeyOrder.{before}
-use Rattle.round_core.specs.Order.{insert_each, in_key_order, IsRising}
+use Rattle.sim_base.specs.KeyOrder.{before, IsRising}
+use Rattle.round_core.specs.Order.{insert_each, in_key_order}
 
 pub record Event (Load : Type 0) : Type 0 where
   pub key : Key

@@ -8,9 +8,8 @@ ghost use Rattle.round_core.specs.Lookahead.{LooksAhead, LooksAheadBySteps, Step
 ghost use Rattle.round_core.specs.Parts.{AreHandedOver, AreParts, Part};
 ghost use Rattle.round_core.specs.Bound.{IsBounded, plain_ending, plain_run};
 ghost use Rattle.round_core.specs.Laws.{Health, IsClosed, IsLawful, IsSound, KeepsLans, BeginsAt};
-ghost use Rattle.sim_base.specs.KeyOrder.{before};
+ghost use Rattle.sim_base.specs.KeyOrder.{before, IsRising};
 ghost use Rattle.round_core.specs.Opening.{IsOpening, opening};
-ghost use Rattle.round_core.specs.Order.{IsRising};
 ghost use Rattle.round_core.specs.Rounds.{Cut, Ending, Done, Limited, below, fired_by, IsAllowed, IsFull, IsPlainRun, IsPrefixOf, PlainEnds, RunsInRounds, firings_of, group_firings, times_of, windows};
 ghost use Rattle.round_core.specs.World.{Event, Firing, IsPast, Rules, World, first, in_order, with_log};
 

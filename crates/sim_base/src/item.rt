@@ -5,7 +5,7 @@ ghost use Rattle.sim_base.specs.Items as parts;
 ghost use Rattle.sim_base.specs.Kind.{same_kind};
 
 /// What a part of a packet is.
-#[derive(Clone, Copy, Debug, PartialEq, Eq)]
+#[derive(Clone, Copy, Debug, Default, PartialEq, Eq)]
 pub enum Kind {
     Ppp,
     Ethernet,
@@ -15,13 +15,14 @@ pub enum Kind {
     Icmp,
     Udp,
     Tcp,
+    #[default]
     Payload,
     Pad,
 }
 
 /// A part of a packet that was `size` bytes long, and from which `cut_front` and `cut_back` bytes have
 /// been cut since.
-#[derive(Clone, Copy, Debug, PartialEq, Eq)]
+#[derive(Clone, Copy, Debug, Default, PartialEq, Eq)]
 pub struct Item {
     pub kind: Kind,
     pub size: u32,

@@ -4,7 +4,7 @@ ghost use Rattle.std.specs.Prelude.{◌≡◌, ◌+◌, ◌-◌, ◌^◌, ◌<�
 ghost use Rattle.sim_base.specs.ByteTags.{moved_up, shift, part_within, parts_within, covers_a_byte, IsTagWithin};
 
 /// A tag on the bytes from `from` up to `to`.
-#[derive(Clone, Copy, Debug, PartialEq, Eq)]
+#[derive(Clone, Copy, Debug, Default, PartialEq, Eq)]
 pub struct ByteTag {
     pub tag: u32,
     pub from: u32,
@@ -13,7 +13,7 @@ pub struct ByteTag {
 }
 
 /// A tag on a whole packet.
-#[derive(Clone, Copy, Debug, PartialEq, Eq)]
+#[derive(Clone, Copy, Debug, Default, PartialEq, Eq)]
 pub struct PacketTag {
     pub tag: u32,
     pub value: u64,

@@ -2,7 +2,7 @@
 use Rattle.std.proofs.Common.{◌≡◌, ℕ, ◌+◌, ◌<◌, zero, suc, length, List, [], ◌∷◌, ◌++◌, map, set, Bool, true, false, refl, ap, ◌∙◌, sym, subst, arith, inl, inr, Option, Some, None, slice_get, get_or, ◌==◌}
 use Rattle.std.specs.List.{AllByRecursion}
 use Rattle.std.proofs.lemmas.Bool.{cases_Bool, eqb-true, eqb-false}
-use Rattle.round_core.specs.Order.{insert_by}
+use Rattle.sim_base.specs.KeyOrder.{insert_by}
 use Rattle.round_core.specs.World.{Event}
 use Rattle.round_core.specs.Parts.{Part as GroupPart}
 use Rattle.tokens.proofs.Heads.{head-first}

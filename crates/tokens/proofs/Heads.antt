@@ -1,8 +1,7 @@
 -- The first of the tokens in the order of their keys.
 use Rattle.std.proofs.Common.{◌≡◌, ℕ, ◌<◌, ◌≤◌, length, List, [], ◌∷◌, map, true, refl, arith, inl, inr, Some, None, get_or}
 use Rattle.std.proofs.lemmas.Bool.{le-ltb, lt-ltb}
-use Rattle.sim_base.specs.KeyOrder.{before}
-use Rattle.round_core.specs.Order.{IsRising}
+use Rattle.sim_base.specs.KeyOrder.{before, IsRising}
 use Rattle.round_core.specs.Rounds.{below}
 use Rattle.round_core.specs.World.{first, without_first}
 use Rattle.sim_base.proofs.KeyLaws.{before-time}

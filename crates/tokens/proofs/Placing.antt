@@ -3,8 +3,7 @@ use Rattle.std.proofs.Common.{◌≡◌, ℕ, ◌≤◌, suc, length, List, [], 
 use Rattle.std.proofs.lemmas.Bool.{cases_Bool, ltb-false}
 use Rattle.std.proofs.lemmas.Grind.{common_steps}
 use Rattle.std.specs.List.{position, position_or_len}
-use Rattle.sim_base.specs.KeyOrder.{before}
-use Rattle.round_core.specs.Order.{insert_by}
+use Rattle.sim_base.specs.KeyOrder.{before, insert_by}
 use Rattle.tokens.specs.Tokens.{event_of}
 use Rattle.tokens.specs.declared.Token.{Token}
 

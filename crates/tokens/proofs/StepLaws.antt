@@ -2,7 +2,8 @@
 use Rattle.std.proofs.Common.{◌≡◌, ℕ, ◌+◌, ◌<◌, zero, suc, List, [], ◌∷◌, ◌++◌, map, filter, not, set, refl, ap, ◌∙◌, sym, inl, inr, Option, Some, None, slice_get, unwrap_or, ◌==◌, if◌then◌else◌}
 use Rattle.std.proofs.lemmas.Bool.{cases_Bool, eqb-true, eqb-false, eq-eqb, ne_eqb}
 use Rattle.std.proofs.lemmas.List.{map-append, append-nil}
-use Rattle.round_core.specs.Order.{insert_by, insert_each}
+use Rattle.round_core.specs.Order.{insert_each}
+use Rattle.sim_base.specs.KeyOrder.{insert_by}
 use Rattle.round_core.specs.Parts.{is_for, part_after}
 use Rattle.round_core.specs.Parts.{Part as GroupPart}
 use Rattle.round_core.specs.Rounds.{below}

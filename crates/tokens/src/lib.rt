@@ -3,9 +3,8 @@
 
 ghost use Rattle.std.specs.Prelude.{◌≡◌, ◌≤◌, ◌<◌, ◌^◌, ℕ, length, map, IfOk, slice_get, vec_len, Some, position, MatchOption, slice_set, true, false, ◌++◌, ◌∷◌, [], ◌+◌};
 ghost use Rattle.std.specs.List.{All};
-ghost use Rattle.round_core.specs.Order.{IsRising, insert_by};
 ghost use Rattle.round_core.specs.World.{first};
-ghost use Rattle.sim_base.specs.KeyOrder.{before};
+ghost use Rattle.sim_base.specs.KeyOrder.{before, IsRising, insert_by};
 ghost use Rattle.round_core.specs.Laws.{IsHealthy, IsSound};
 ghost use Rattle.round_core.specs.Parts.{IsPartSound, PartRuns};
 ghost use Rattle.round_core.specs.Rounds.{IsPlainRun, below};

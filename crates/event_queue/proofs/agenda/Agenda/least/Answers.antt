@@ -1,5 +1,6 @@
 use Rattle.std.proofs.Common.{sym, ap, subst, ◌∙◌, arith}
-use Rattle.event_queue.specs.Pending.{key_of, first_key, IsRising}
+use Rattle.event_queue.specs.Pending.{key_of, first_key}
+use Rattle.sim_base.specs.KeyOrder.{IsRising}
 use Rattle.event_queue.proofs.HeapLaws.{rising-entries, no_entries, top_key}
 use Rattle.event_queue.proofs.agenda.Agenda.least.Goals as goal
 

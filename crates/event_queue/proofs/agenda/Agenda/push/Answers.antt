@@ -1,5 +1,6 @@
 use Rattle.std.proofs.Common.{sym, ap, subst, ◌∙◌}
-use Rattle.event_queue.specs.Pending.{key_of, insert_by, IsNew}
+use Rattle.event_queue.specs.Pending.{key_of, IsNew}
+use Rattle.sim_base.specs.KeyOrder.{insert_by}
 use Rattle.event_queue.proofs.HeapLaws.{heap-pushed, entries-pushed}
 use Rattle.event_queue.proofs.agenda.Agenda.push.Goals as goal
 

@@ -1,5 +1,6 @@
 use Rattle.std.proofs.Common.{subst}
-use Rattle.event_queue.specs.Pending.{key_of, IsRising}
+use Rattle.event_queue.specs.Pending.{key_of}
+use Rattle.sim_base.specs.KeyOrder.{IsRising}
 use Rattle.event_queue.proofs.LoadLaws.{rising_events}
 use Rattle.event_queue.proofs.queue.Queue.least.Goals as goal
 

@@ -1,6 +1,7 @@
 use Rattle.std.proofs.Common.{sym, ap, subst, ◌∙◌}
 use Rattle.std.proofs.lemmas.Map.Keys.{le_from_is_le}
-use Rattle.event_queue.specs.Pending.{key_of, IsRising, NoneBelow}
+use Rattle.event_queue.specs.Pending.{key_of, NoneBelow}
+use Rattle.sim_base.specs.KeyOrder.{IsRising}
 use Rattle.event_queue.specs.Loads.{HoldsLoads, events_at}
 use Rattle.event_queue.proofs.LoadLaws.{rising_events, first_key-events, none_below, holds-popped, events-popped}
 use Rattle.event_queue.proofs.queue.Queue.pop_below.Goals as goal

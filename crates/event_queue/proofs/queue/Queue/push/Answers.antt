@@ -1,6 +1,7 @@
 use Rattle.std.proofs.Common.{◌≡◌, ◌≢◌, ℕ, List, Option, Some, None, slice_index_or, sym, ap, subst, ◌∙◌}
 use Rattle.slab.specs.Slab.{Slab, Updates}
-use Rattle.event_queue.specs.Pending.{key_of, insert_by, IsNew}
+use Rattle.event_queue.specs.Pending.{key_of, IsNew}
+use Rattle.sim_base.specs.KeyOrder.{insert_by}
 use Rattle.event_queue.specs.Loads.{HoldsLoads, events_at}
 use Rattle.event_queue.proofs.LoadLaws.{all_of_events, holds-pushed, events-pushed}
 use Rattle.event_queue.proofs.queue.Queue.push.Goals as goal
