@@ -79,6 +79,13 @@ impl App {
         }
     }
 
+    /// Its number in the scenario.
+    pub fn number(&self) -> u32
+        ensures { result ≡ self.now.number }
+    {
+        self.number
+    }
+
     /// What it has sent and got.
     pub fn counts(&self) -> Counts
         ensures { result ≡ self.now.counts }
