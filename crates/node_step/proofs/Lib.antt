@@ -1,0 +1,4 @@
+pub mod Numbering
+pub mod Fits
+pub mod DownLaws
+pub mod PartLaws

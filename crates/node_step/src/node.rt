@@ -1,0 +1,98 @@
+//! A node of the simulation.
+
+mod apps;
+mod down;
+mod react;
+mod sending;
+mod tools;
+mod up;
+
+ghost use Rattle.std.specs.Prelude.{◌≡◌, ◌++◌, OnOk, map};
+ghost use Rattle.node_step.specs.LocalApp.{app_count};
+ghost use Rattle.node_step.specs.Node.{with_drop};
+
+use crate::iface::Iface;
+use crate::local_app::{AppCount, LocalApp};
+use ipv4_core::Ip;
+use pkt_face::Pkt;
+use sim_base::{NoMemory, NodeId, Numbers};
+use std::marker::Model;
+pub use tools::Tools;
+use udp_icmp::Ports;
+
+/// A node of the simulation: a part for each layer, what it has numbered, and what is counted.
+#[derive(Drop)]
+pub struct Node<P: Pkt> {
+    ifaces: Vec<Iface<P>>,
+    ip: Ip,
+    ports: Ports,
+    apps: Vec<LocalApp>,
+    numbers: Numbers,
+    drops: u64,
+    scheduled: u64,
+}
+
+impl<P: Pkt> Model for Node<P> {
+    ghost use Rattle.std.specs.Prelude.{◌≤◌, ◌^◌};
+    ghost use Rattle.node_step.specs.Node.{PlainNode};
+
+    ghost Value = { PlainNode };
+
+    ghost view = { λ n. record { ifaces = n.ifaces.items; ip = n.ip; ports = n.ports; apps = n.apps.items; numbers = n.numbers; drops = n.drops; scheduled = n.scheduled } };
+
+    ghost invariant = { λ n. n.scheduled ≤ 10 ^ 9 };
+}
+
+impl<P: Pkt> Node<P> {
+    /// A node that has done nothing yet.
+    pub fn make(
+        number: NodeId,
+        ifaces: Vec<Iface<P>>,
+        ip: Ip,
+        ports: Ports,
+        apps: Vec<LocalApp>,
+    ) -> Node<P>
+        ensures { result ≡ record { ifaces = ifaces.items; ip = ip; ports = ports; apps = apps.items; numbers = record { node = number; packets = 0; ids = 0; stamps = 0 }; drops = 0; scheduled = 0 } }
+    {
+        let numbers = Numbers {
+            node: number,
+            packets: 0,
+            ids: 0,
+            stamps: 0,
+        };
+        Node {
+            ifaces,
+            ip,
+            ports,
+            apps,
+            numbers,
+            drops: 0,
+            scheduled: 0,
+        }
+    }
+
+    /// How many packets the node has dropped.
+    pub fn drops(&self) -> u64
+        ensures { result ≡ self.now.drops }
+    {
+        self.drops
+    }
+
+    /// Puts behind `counts` what each of its applications has sent and got.
+    pub fn add_counts(&self, counts: &mut Vec<AppCount>) -> Result<(), NoMemory>
+        ensures { OnOk result (counts.new.items ≡ counts.old.items ++ map app_count self.now.apps) }
+    {
+        for app in &self.apps {
+            counts.push(app.count())?;
+        }
+        Ok(())
+    }
+
+    /// Counts a packet as dropped.
+    #[tactic(auto, unfolding(crate::specs::Node::with_drop))]
+    fn drop_packet(&mut self)
+        ensures { self.new ≡ with_drop self.old }
+    {
+        self.drops = self.drops.saturating_add(1);
+    }
+}

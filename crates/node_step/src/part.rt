@@ -1,0 +1,125 @@
+//! A part of the network: some of its nodes.
+
+ghost use Rattle.std.specs.Prelude.{◌≡◌, ◌≤◌, ◌^◌, ◌↔◌, IsTrue, IfOk, OnOk, OnErr, IfErr, IsSomeAnd};
+ghost use Rattle.layer_words.specs.Acts.{Appends};
+ghost use Rattle.node_step.specs.Loads.{plain_event, plain_line};
+
+use crate::firing::Firing;
+use crate::loads::{Effects, Event};
+use crate::local_app::AppCount;
+use crate::node::{Node, Tools};
+use crate::stop::FireStop;
+use pkt_face::Pkt;
+use sim_base::{Key, NoMemory, NodeId, Time};
+use std::alloc::Global;
+use std::marker::Model;
+
+/// Some of the nodes. `places` says of each node where it stands in `nodes`.
+#[derive(Drop)]
+pub struct Part<P: Pkt> {
+    places: Vec<u32>,
+    nodes: Vec<Node<P>>,
+    limit: u64,
+    maker: P::Maker,
+    tools: Tools<P>,
+    firing: Firing<P>,
+}
+
+impl<P: Pkt> Model for Part<P> {
+    ghost use Rattle.std.specs.Prelude.{◌≤◌, ◌^◌};
+    ghost use Rattle.node_step.specs.Part.{PlainPart};
+
+    ghost Value = { PlainPart };
+
+    ghost view = { λ p. record { places = p.places.items; nodes = p.nodes.items; limit = p.limit } };
+
+    ghost invariant = { λ p. p.limit ≤ 10 ^ 9 };
+}
+
+/// The end of the longest run.
+const LATEST: Time = Time(1_000_000_000_000);
+
+impl<P: Pkt> Part<P> {
+    ghost use Rattle.node_step.specs.Part.{CanFire, counts, drops, fire};
+    ghost use Rattle.node_step.specs.React.{Refuses};
+
+    pub fn make(alloc: Global, places: Vec<u32>, nodes: Vec<Node<P>>, limit: u64) -> Part<P>
+        requires { limit ≤ 10 ^ 9 }
+        ensures { result ≡ record { places = places.items; nodes = nodes.items; limit = limit } }
+    {
+        let none = Key {
+            time: Time(0),
+            node: NodeId(0),
+            sent: Time(0),
+            by: NodeId(0),
+            count: 0,
+        };
+        Part {
+            places,
+            nodes,
+            limit,
+            maker: P::maker(alloc),
+            tools: Tools::make(alloc),
+            firing: Firing::new(alloc, none, 0),
+        }
+    }
+
+    /// Whether an event can fire here: it comes at a time of a run, and the part has its node, which has the
+    /// interface or the application that it names.
+    pub fn can_fire(&self, ev: &Event<P>) -> bool
+        ensures { IsTrue result ↔ CanFire (plain_event P.plain ev.now) self.now }
+    {
+        if ev.key.time > LATEST {
+            return false;
+        }
+        let Some(place) = self.places.get(ev.key.node.0 as usize) else {
+            return false;
+        };
+        let Some(node) = self.nodes.get(*place as usize) else {
+            return false;
+        };
+        node.can_handle(&ev.load)
+    }
+
+    /// Fires an event: its node reacts to it. After a refusal the part is given up and the effects are as before.
+    pub fn fire(&mut self, ev: Event<P>, out: &mut Effects<P>) -> Result<(), FireStop>
+        requires { CanFire (plain_event P.plain ev) self.old }
+        ensures ok { OnOk result (IsSomeAnd (fire (plain_event P.plain ev) self.old) (λ f. (self.new ≡ f.part) × Appends (plain_event P.plain) out.old.sends.items out.new.sends.items f.sends × Appends (plain_line P.plain) out.old.lines.items out.new.lines.items f.lines)) }
+        ensures limit { IfErr result (Refuses ev.key.node (fire (plain_event P.plain ev) self.old)) }
+        ensures err { OnErr result ((out.new.sends.items ≡ out.old.sends.items) × (out.new.lines.items ≡ out.old.lines.items)) }
+    {
+        let place = self.places[ev.key.node.0 as usize];
+        let node = &mut self.nodes[place as usize];
+        node.react(
+            &mut self.tools,
+            &mut self.maker,
+            self.limit,
+            ev,
+            &mut self.firing,
+        )?;
+        self.firing.finish(out)?;
+        Ok(())
+    }
+
+    /// What each application has sent and got: those of the first node in their order, then those of the next.
+    pub fn counts(&self) -> Result<Vec<AppCount>, NoMemory>
+        ensures { IfOk result (λ found. found.items ≡ counts self.now.nodes) }
+    {
+        let mut found = Vec::new(*self.nodes.allocator());
+        for node in &self.nodes {
+            node.add_counts(&mut found)?;
+        }
+        Ok(found)
+    }
+
+    /// How many packets the nodes have dropped.
+    pub fn drops(&self) -> u64
+        ensures { result ≡ drops self.now.nodes }
+    {
+        let mut drops: u64 = 0;
+        for node in &self.nodes {
+            drops = drops.saturating_add(node.drops());
+        }
+        drops
+    }
+}
