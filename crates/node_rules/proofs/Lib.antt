@@ -1,0 +1,13 @@
+pub mod Folds
+pub mod Kept
+pub mod Devices
+pub mod DownKeeps
+pub mod SendingKeeps
+pub mod AppActs
+pub mod AppKeeps
+pub mod UpKeeps
+pub mod ReactKeeps
+pub mod RuleLaws
+pub mod FireLaws
+pub mod WorldLaws
+pub mod OpeningLaws

@@ -1,0 +1,47 @@
+-- Nodes that are well by what they have together open a world.
+use Rattle.std.proofs.Common.{◌≡◌, ℕ, ◌<◌, List, [], ◌∷◌, length, map, Option, None, Some, slice_get, refl, sym, ap}
+use Rattle.std.specs.List.{AllByRecursion}
+use Rattle.std.specs.Prelude.{◌≢◌}
+use Rattle.sim_base.specs.Packet.{Packet}
+use Rattle.round_core.specs.Opening.{HaveOwnKeys, IsOpening}
+use Rattle.round_core.specs.World.{Event}
+use Rattle.node_step.specs.declared.loads.Event.{Event as NodeEvent}
+use Rattle.node_step.specs.declared.loads.Load.{Load}
+use Rattle.node_step.specs.Node.{PlainNode}
+use Rattle.node_rules.specs.Health.{IsWellEvent, IsWellNode, health}
+use Rattle.node_rules.specs.Rules.{rules}
+use Rattle.node_rules.specs.Worlds.{AreWellNodes, event_of, link_of, node_at, node_or, shape_of}
+
+nothing-there : {A : Type 0} {P : Type 0} (i : ℕ) (x : A) → slice_get [] i ≡ Some x → P
+nothing-there i x h = absurd (let d : None ≡ Some x = h in cc)
+
+node-well : (nodes : List PlainNode) → AreWellNodes nodes → (n : ℕ) (o : Option PlainNode) → slice_get nodes n ≡ o →
+    IsWellNode (shape_of nodes) n (node_or n o)
+node-well nodes well n None is = record {
+  number = refl;
+  ifaces = ap (λ (o : Option PlainNode). length (map link_of (node_or n o).ifaces)) (sym is);
+  apps = ap (λ (o : Option PlainNode). length (node_or n o).apps) (sym is);
+  each_iface = λ i link face here at. nothing-there i face at;
+  each_app = λ i a at. nothing-there i a at;
+}
+node-well nodes well n (Some node) is = well n node is
+
+pub all-over : {A B : Type 0} (P : B → Type 0) (f : A → B) (xs : List A) → AllByRecursion (λ x. P (f x)) xs → AllByRecursion P (map f xs)
+all-over P f [] h = tt
+all-over P f (x ∷ xs) h = (h.0, all-over P f xs h.1)
+
+own-keys : (events : List (NodeEvent Packet)) → HaveOwnKeys (λ e. e.key) events → HaveOwnKeys (λ (e : Event (Load Packet)). e.key) (map event_of events)
+own-keys [] h = tt
+own-keys (e ∷ events) h = (all-over (λ (y : Event (Load Packet)). e.key ≢ y.key) event_of events h.0, own-keys events h.1)
+
+pub opens : (limit : ℕ) (nodes : List PlainNode) (events : List (NodeEvent Packet)) → AreWellNodes nodes →
+    AllByRecursion (λ e. IsWellEvent (shape_of nodes) (event_of e)) events → HaveOwnKeys (λ e. e.key) events →
+    AllByRecursion (λ e. e.key.count < (node_at nodes e.key.by.0).scheduled) events →
+    IsOpening (rules limit) (health (shape_of nodes)) (node_at nodes) (λ lan. tt) (map event_of events)
+opens limit nodes events well events_ok own counted = record {
+  nodes_ok = λ n. node-well nodes well n (slice_get nodes n) refl;
+  lans_ok = λ l. tt;
+  events_ok = all-over (IsWellEvent (shape_of nodes)) event_of events events_ok;
+  own_keys = own-keys events own;
+  counted = all-over (λ (e : Event (Load Packet)). e.key.count < (node_at nodes e.key.by.0).scheduled) event_of events counted;
+}

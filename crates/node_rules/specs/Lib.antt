@@ -1,0 +1,4 @@
+pub mod Rules
+pub mod Health
+pub mod Worlds
+pub mod Firings

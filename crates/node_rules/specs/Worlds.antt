@@ -1,0 +1,55 @@
+-- The world of a list of nodes.
+use Rattle.std.specs.Prelude.{ℕ, ◌≡◌, List, [], map, length, Option, None, Some, slice_get}
+use Rattle.sim_base.specs.Packet.{Packet}
+use Rattle.round_core.specs.Opening.{opening}
+use Rattle.round_core.specs.World.{Event, World}
+use Rattle.node_step.specs.declared.loads.Event.{Event as NodeEvent}
+use Rattle.node_step.specs.declared.loads.Load.{Load}
+use Rattle.node_step.specs.Firing.{Text}
+use Rattle.node_step.specs.Iface.{PlainIface}
+use Rattle.node_step.specs.Node.{PlainNode}
+use Rattle.node_rules.specs.Health.{Link, Shape, IsWellNode}
+use Rattle.node_rules.specs.Rules.{NoLan}
+
+-- a node with nothing: no event is for it
+abbrev pub no_node : ℕ → PlainNode
+no_node n = record {
+  ifaces = [];
+  ip = record { routes = []; own = [] };
+  ports = record { udp = []; pings = [] };
+  apps = [];
+  numbers = record { node = record { 0 = n }; packets = 0; ids = 0; stamps = 0 };
+  drops = 0;
+  scheduled = 0;
+}
+
+abbrev pub node_or : ℕ → Option PlainNode → PlainNode
+node_or n None = no_node n
+node_or n (Some node) = node
+
+-- the nodes by number; a node beyond the list has nothing
+abbrev pub node_at : List PlainNode → ℕ → PlainNode
+node_at nodes n = node_or n (slice_get nodes n)
+
+-- an event of a node, in the world
+abbrev pub event_of : NodeEvent Packet → Event (Load Packet)
+event_of e = record { key = e.key; load = e.load }
+
+-- the world of these nodes, in which these events are the first to come
+abbrev pub opening_world : List PlainNode → List (NodeEvent Packet) → World PlainNode NoLan (Load Packet) Text
+opening_world nodes events = opening (node_at nodes) (λ lan. tt) (map event_of events)
+
+abbrev pub link_of : PlainIface → Link
+link_of face = record { to = face.ends.peer.0; to_iface = face.ends.peer_iface; delay = face.device.delay }
+
+-- what these nodes have
+abbrev pub shape_of : List PlainNode → Shape
+shape_of nodes = record {
+  nodes = length nodes;
+  links = λ n. map link_of (node_at nodes n).ifaces;
+  apps = λ n. length (node_at nodes n).apps;
+}
+
+-- nodes that are well by what they have together
+abbrev pub AreWellNodes : List PlainNode → Type 0
+AreWellNodes nodes = (n : ℕ) (node : PlainNode) → slice_get nodes n ≡ Some node → IsWellNode (shape_of nodes) n node
