@@ -43,6 +43,7 @@ pub record Keeps (ok : Type 0) (shape : Shape) (now n : ℕ) (was p : Progress) 
   pub key : p.firing.key ≡ was.firing.key
   pub before : p.firing.before ≡ was.firing.before
   pub scheduled : p.node.scheduled ≡ was.node.scheduled
+  pub first : p.node.first ≡ was.node.first
   pub well : ok → IsWellProgress shape now n p
 
 pub changed-keeps : {Part : Type 0} (K : Progress → Type 0) (part : Option Part) (act : Part → Progress) (p : Progress) →
@@ -54,17 +55,18 @@ module _ (ok : Type 0) (shape : Shape) (now n : ℕ) (was : Progress) where
   abbrev K : Progress → Type 0
   K p = Keeps ok shape now n was p
 
-  node-keeps : (node : PlainNode) (p : Progress) → node.scheduled ≡ p.node.scheduled →
+  node-keeps : (node : PlainNode) (p : Progress) → node.scheduled ≡ p.node.scheduled → node.first ≡ p.node.first →
       (IsWellNode shape n p.node → IsWellNode shape n node) → K p → K (record p { node = node })
-  node-keeps node p same well k = record {
+  node-keeps node p same first well k = record {
     key = k.key;
     before = k.before;
     scheduled = same ∙ k.scheduled;
+    first = first ∙ k.first;
     well = λ o. let w = k.well o in record { node = well w.node; requests = w.requests };
   }
 
   pub numbers-keep : (numbers : Numbers) (p : Progress) → numbers.node ≡ p.node.numbers.node → K p → K (with_numbers numbers p)
-  numbers-keep numbers p same k = node-keeps (record p.node { numbers = numbers }) p refl
+  numbers-keep numbers p same k = node-keeps (record p.node { numbers = numbers }) p refl refl
       (λ w. record {
         number = ap (λ (id : NodeId). id.0) same ∙ w.number;
         ifaces = w.ifaces;
@@ -75,7 +77,7 @@ module _ (ok : Type 0) (shape : Shape) (now n : ℕ) (was : Progress) where
 
   pub drop-keeps : (p : Progress) → K p → K (dropped p)
   unfolding with_drop
-  drop-keeps p k = node-keeps (with_drop p.node) p refl
+  drop-keeps p k = node-keeps (with_drop p.node) p refl refl
       (λ w. record { number = w.number; ifaces = w.ifaces; apps = w.apps; each_iface = w.each_iface; each_app = w.each_app }) k
 
   module _ (iface : ℕ) (face new : PlainIface) (p : Progress) (at : slice_get p.node.ifaces iface ≡ Some face)
@@ -94,7 +96,7 @@ module _ (ok : Type 0) (shape : Shape) (now n : ℕ) (was : Progress) where
     ]
 
     pub iface-keeps : K p → K (with_iface iface new p)
-    iface-keeps k = node-keeps (record p.node { ifaces = slice_set p.node.ifaces iface new }) p refl
+    iface-keeps k = node-keeps (record p.node { ifaces = slice_set p.node.ifaces iface new }) p refl refl
         (λ w. record {
           number = w.number;
           ifaces = length-set p.node.ifaces iface new ∙ w.ifaces;
@@ -115,7 +117,7 @@ module _ (ok : Type 0) (shape : Shape) (now n : ℕ) (was : Progress) where
     ]
 
     pub app-keeps : K p → K (with_app app new p)
-    app-keeps k = node-keeps (record p.node { apps = slice_set p.node.apps app new }) p refl
+    app-keeps k = node-keeps (record p.node { apps = slice_set p.node.apps app new }) p refl refl
         (λ w. record {
           number = w.number;
           ifaces = w.ifaces;
@@ -130,6 +132,7 @@ module _ (ok : Type 0) (shape : Shape) (now n : ℕ) (was : Progress) where
     key = k.key;
     before = k.before;
     scheduled = k.scheduled;
+    first = k.first;
     well = λ o. let w = k.well o in record {
       node = w.node;
       requests = all-snoc (IsAsked shape now n) p.firing.requests (record { at = time; to = to; load = load }) w.requests (asked o);
@@ -141,5 +144,6 @@ module _ (ok : Type 0) (shape : Shape) (now n : ℕ) (was : Progress) where
     key = k.key;
     before = k.before;
     scheduled = k.scheduled;
+    first = k.first;
     well = λ o. let w = k.well o in record { node = w.node; requests = w.requests };
   }

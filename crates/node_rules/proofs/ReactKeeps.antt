@@ -31,4 +31,4 @@ pub progress-keeps : (ok : Type 0) (shape : Shape) (e : Event Packet) (node : Pl
     (ok → IsWellNode shape e.key.node.0 node) → Keeps ok shape e.key.time.0 e.key.node.0 (begun e node) (progress e node)
 progress-keeps ok shape e node known well =
     handled-keeps ok shape e.key.time e.key.node.0 known (begun e node) e.load (begun e node)
-    (record { key = refl; before = refl; scheduled = refl; well = λ o. record { node = well o; requests = tt } })
+    (record { key = refl; before = refl; scheduled = refl; first = refl; well = λ o. record { node = well o; requests = tt } })

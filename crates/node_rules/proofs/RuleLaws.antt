@@ -30,14 +30,16 @@ limit-not b h = absurd (let d : Limit ≡ Does b = h in cc)
 
 -- what a reaction that is no limit leaves
 pub record Reacts (limit : ℕ) (e : Event (Load Packet)) (node : PlainNode) (effect : NodeEffect) : Type 0 where
-  pub fits : (progress (node_event e) node).node.scheduled + length (progress (node_event e) node).firing.requests ≤ limit
+  pub fits : (progress (node_event e) node).node.scheduled + length (progress (node_event e) node).firing.requests
+      ≤ (progress (node_event e) node).node.first + limit
   pub does : effect_of (counted (progress (node_event e) node)) ≡ effect
 
 within-limit : (limit : ℕ) (e : Event (Load Packet)) (node : PlainNode) (effect : NodeEffect) (over : Bool) →
-    nat_lt limit ((progress (node_event e) node).node.scheduled + length (progress (node_event e) node).firing.requests) ≡ over →
+    nat_lt ((progress (node_event e) node).node.first + limit)
+    ((progress (node_event e) node).node.scheduled + length (progress (node_event e) node).firing.requests) ≡ over →
     reaction_of (if over then None else Some (counted (progress (node_event e) node))) ≡ Does effect → Reacts limit e node effect
 within-limit limit e node effect true is h = limit-not effect h
-within-limit limit e node effect false is h = record { fits = ltb-false limit _ is; does = does-same _ effect h }
+within-limit limit e node effect false is h = record { fits = ltb-false _ _ is; does = does-same _ effect h }
 
 pub reacts : (limit : ℕ) (e : Event (Load Packet)) (node : PlainNode) (effect : NodeEffect) →
     reaction_of (react limit (node_event e) node) ≡ Does effect → Reacts limit e node effect
@@ -86,9 +88,10 @@ module _ (limit : ℕ) (shape : Shape) where
     owed-at : (effect : NodeEffect) → Reacts limit e node effect → IsOwed (rules limit) (health shape) e node effect
     owed-at effect r = subst (λ (x : NodeEffect). IsOwed (rules limit) (health shape) e node x) r.does owed-counted
 
-    spent-counted : end.node.scheduled + length end.firing.requests ≤ limit →
+    spent-counted : end.node.scheduled + length end.firing.requests ≤ end.node.first + limit →
         room limit (counted end).node + length (map send_of end.firing.requests) ≤ room limit node
     spent-counted fits = let same : end.node.scheduled ≡ node.scheduled = kept.scheduled in
+        let first : end.node.first ≡ node.first = kept.first in
         omega (arith, length-map end.firing.requests send_of)
 
     spent-at : (effect : NodeEffect) → Reacts limit e node effect → room limit effect.node + length effect.sends ≤ room limit node

@@ -1,5 +1,5 @@
 -- Nodes as rounds see them: the rules of a simulation of nodes and links.
-use Rattle.std.specs.Prelude.{ℕ, ◌-◌, false, map, Option, None, Some}
+use Rattle.std.specs.Prelude.{ℕ, ◌+◌, ◌-◌, false, map, Option, None, Some}
 use Rattle.sim_base.specs.Packet.{Packet}
 use Rattle.round_core.specs.World.{Effect, Event, Reaction, Rules, Send, Limit, Does}
 use Rattle.node_step.specs.declared.loads.Event.{Event as NodeEvent}
@@ -39,4 +39,4 @@ rules limit = record {
 
 -- how many more events a node's firings may schedule
 abbrev pub room : ℕ → PlainNode → ℕ
-room limit node = limit - node.scheduled
+room limit node = node.first + limit - node.scheduled

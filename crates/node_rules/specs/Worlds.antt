@@ -20,6 +20,7 @@ no_node n = record {
   apps = [];
   numbers = record { node = record { 0 = n }; packets = 0; ids = 0; stamps = 0 };
   drops = 0;
+  first = 0;
   scheduled = 0;
 }
 

@@ -9,7 +9,7 @@ use Rattle.node_step.specs.Iface.{PlainIface}
 use Rattle.node_step.specs.LocalApp.{PlainLocalApp}
 
 -- Its interfaces; its routes and addresses; which application gets what comes; its applications; what it has numbered; how many
--- packets it has dropped, and how many events it has scheduled
+-- packets it has dropped; how many events it had scheduled before the run, and how many it has scheduled in all
 pub record PlainNode : Type 0 where
   pub ifaces : List PlainIface
   pub ip : PlainIp
@@ -17,6 +17,7 @@ pub record PlainNode : Type 0 where
   pub apps : List PlainLocalApp
   pub numbers : Numbers
   pub drops : ℕ
+  pub first : ℕ
   pub scheduled : ℕ
 
 -- a node, and what the firing has asked for so far

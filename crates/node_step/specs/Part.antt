@@ -1,5 +1,5 @@
 -- A part of the network, and how it changes when an event fires.
-use Rattle.std.specs.Prelude.{ℕ, ◌<◌, ◌≤◌, ◌^◌, List, fold, length, map, Option, None, Some, slice_get, slice_set, slice_index, IsSomeAnd}
+use Rattle.std.specs.Prelude.{ℕ, Bool, ◌&&◌, nat_lt, ◌<◌, ◌≤◌, ◌^◌, List, fold, length, map, Option, None, Some, slice_get, slice_set, slice_index, IsSomeAnd}
 use Rattle.std.specs.List.{flat_map}
 use Rattle.sim_base.specs.Packet.{Packet}
 use Rattle.pkt_face.specs.declared.line.Line.{Line}
@@ -50,6 +50,10 @@ fire_at e part place (Some node) = allowed part place (react part.limit e node)
 -- the place of a node
 abbrev pub place_of : ℕ → PlainPart → ℕ
 place_of node part = slice_index part.places node
+
+-- whether a node is among the part's; one of another part has a place beyond its nodes
+abbrev pub has : ℕ → PlainPart → Bool
+has node part = nat_lt node (length part.places) && nat_lt (place_of node part) (length part.nodes)
 
 -- an event fires: its node reacts, and no other changes
 abbrev pub fire : Event Packet → PlainPart → Option Fired

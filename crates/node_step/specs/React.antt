@@ -28,9 +28,9 @@ begun e node = record { node = node; firing = record { key = e.key; before = nod
 abbrev pub counted : Progress → Progress
 counted p = record p { node = record p.node { scheduled = p.node.scheduled + length p.firing.requests } }
 
--- what the firing leaves, unless the node would have scheduled more events than it may
+-- what the firing leaves, unless the firings of the node would have scheduled more events than they may
 abbrev pub within : ℕ → Progress → Option Progress
-within limit p = if nat_lt limit p.node.scheduled then None else Some p
+within limit p = if nat_lt (p.node.first + limit) p.node.scheduled then None else Some p
 
 -- The node after a firing and what it asks for. None, where the node would have scheduled more events than it may
 unfoldable pub react : ℕ → Event Packet → PlainNode → Option Progress

@@ -1,6 +1,6 @@
 //! What a firing has asked for so far.
 
-ghost use Rattle.std.specs.Prelude.{◌≡◌, ◌≤◌, ◌<◌, ◌^◌, [], OnOk, OnErr, fold, map, length};
+ghost use Rattle.std.specs.Prelude.{◌≡◌, ◌+◌, ◌≤◌, ◌<◌, ◌^◌, [], OnOk, OnErr, fold, map, length};
 ghost use Rattle.layer_words.specs.Acts.{Appends};
 ghost use Rattle.p2p_dev.specs.Seen.{plain_act};
 ghost use Rattle.node_step.specs.Loads.{plain_load, plain_event, plain_line};
@@ -24,7 +24,7 @@ pub struct Firing<P: Pkt> {
 }
 
 impl<P: Pkt> Model for Firing<P> {
-    ghost use Rattle.std.specs.Prelude.{◌≡◌, ◌≤◌, ◌^◌, map};
+    ghost use Rattle.std.specs.Prelude.{◌≡◌, ◌+◌, ◌≤◌, ◌^◌, map};
     ghost use Rattle.node_step.specs.Firing.{PlainFiring, request_of, text_of, scheduled, numbered};
     ghost use Rattle.node_step.specs.Loads.{plain_event, plain_line};
 
@@ -32,7 +32,7 @@ impl<P: Pkt> Model for Firing<P> {
 
     ghost view = { λ f. record { key = f.key; before = f.before; requests = map request_of (map (plain_event P.plain) f.sends.items); texts = map text_of (map (plain_line P.plain) f.lines.items) } };
 
-    ghost invariant = { λ f. (f.before ≤ 10 ^ 9) × (map (plain_event P.plain) f.sends.items ≡ scheduled f.key f.before (map request_of (map (plain_event P.plain) f.sends.items))) × (map (plain_line P.plain) f.lines.items ≡ numbered f.key 0 (map text_of (map (plain_line P.plain) f.lines.items))) };
+    ghost invariant = { λ f. (f.before ≤ 10 ^ 9 + 10 ^ 6) × (map (plain_event P.plain) f.sends.items ≡ scheduled f.key f.before (map request_of (map (plain_event P.plain) f.sends.items))) × (map (plain_line P.plain) f.lines.items ≡ numbered f.key 0 (map text_of (map (plain_line P.plain) f.lines.items))) };
 }
 
 impl<P: Pkt> Firing<P> {
@@ -41,7 +41,7 @@ impl<P: Pkt> Firing<P> {
 
     /// The firing of an event whose node has scheduled so many events before.
     pub fn new(alloc: Global, key: Key, before: u64) -> Firing<P>
-        requires { before ≤ 10 ^ 9 }
+        requires { before ≤ 10 ^ 9 + 10 ^ 6 }
         ensures { result ≡ record { key = key; before = before; requests = []; texts = [] } }
     {
         Firing {
@@ -54,7 +54,7 @@ impl<P: Pkt> Firing<P> {
 
     /// Begins the firing of another event.
     pub fn begin(&mut self, key: Key, before: u64)
-        requires { before ≤ 10 ^ 9 }
+        requires { before ≤ 10 ^ 9 + 10 ^ 6 }
         ensures { self.new ≡ record { key = key; before = before; requests = []; texts = [] } }
     {
         self.key = key;

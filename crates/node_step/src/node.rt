@@ -7,7 +7,7 @@ mod sending;
 mod tools;
 mod up;
 
-ghost use Rattle.std.specs.Prelude.{◌≡◌, ◌++◌, OnOk, map};
+ghost use Rattle.std.specs.Prelude.{◌≡◌, ◌≤◌, ◌^◌, ◌++◌, OnOk, map};
 ghost use Rattle.node_step.specs.LocalApp.{app_count};
 ghost use Rattle.node_step.specs.Node.{with_drop};
 
@@ -29,30 +29,34 @@ pub struct Node<P: Pkt> {
     apps: Vec<LocalApp>,
     numbers: Numbers,
     drops: u64,
+    first: u64,
     scheduled: u64,
 }
 
 impl<P: Pkt> Model for Node<P> {
-    ghost use Rattle.std.specs.Prelude.{◌≤◌, ◌^◌};
+    ghost use Rattle.std.specs.Prelude.{◌+◌, ◌≤◌, ◌^◌};
     ghost use Rattle.node_step.specs.Node.{PlainNode};
 
     ghost Value = { PlainNode };
 
-    ghost view = { λ n. record { ifaces = n.ifaces.items; ip = n.ip; ports = n.ports; apps = n.apps.items; numbers = n.numbers; drops = n.drops; scheduled = n.scheduled } };
+    ghost view = { λ n. record { ifaces = n.ifaces.items; ip = n.ip; ports = n.ports; apps = n.apps.items; numbers = n.numbers; drops = n.drops; first = n.first; scheduled = n.scheduled } };
 
-    ghost invariant = { λ n. n.scheduled ≤ 10 ^ 9 };
+    ghost invariant = { λ n. (n.first ≤ 10 ^ 6) × (n.scheduled ≤ n.first + 10 ^ 9) };
 }
 
 impl<P: Pkt> Node<P> {
-    /// A node that has done nothing yet.
+    /// A node that has fired nothing yet, and has numbered `first` events before the run: the first ticks of its
+    /// applications. They don't count for the limit.
     pub fn make(
         number: NodeId,
+        first: u64,
         ifaces: Vec<Iface<P>>,
         ip: Ip,
         ports: Ports,
         apps: Vec<LocalApp>,
     ) -> Node<P>
-        ensures { result ≡ record { ifaces = ifaces.items; ip = ip; ports = ports; apps = apps.items; numbers = record { node = number; packets = 0; ids = 0; stamps = 0 }; drops = 0; scheduled = 0 } }
+        requires { first ≤ 10 ^ 6 }
+        ensures { result ≡ record { ifaces = ifaces.items; ip = ip; ports = ports; apps = apps.items; numbers = record { node = number; packets = 0; ids = 0; stamps = 0 }; drops = 0; first = first; scheduled = first } }
     {
         let numbers = Numbers {
             node: number,
@@ -67,7 +71,8 @@ impl<P: Pkt> Node<P> {
             apps,
             numbers,
             drops: 0,
-            scheduled: 0,
+            first,
+            scheduled: first,
         }
     }
 

@@ -40,7 +40,7 @@ impl<P: Pkt> Model for Part<P> {
 const LATEST: Time = Time(1_000_000_000_000);
 
 impl<P: Pkt> Part<P> {
-    ghost use Rattle.node_step.specs.Part.{CanFire, counts, drops, fire};
+    ghost use Rattle.node_step.specs.Part.{CanFire, has, counts, drops, fire};
     ghost use Rattle.node_step.specs.React.{Refuses};
 
     pub fn make(alloc: Global, places: Vec<u32>, nodes: Vec<Node<P>>, limit: u64) -> Part<P>
@@ -79,6 +79,16 @@ impl<P: Pkt> Part<P> {
             return false;
         };
         node.can_handle(&ev.load)
+    }
+
+    /// Whether a node is among the part's.
+    pub fn has(&self, node: NodeId) -> bool
+        ensures { result ≡ has node.0 self.now }
+    {
+        match self.places.get(node.0 as usize) {
+            Some(place) => (*place as usize) < self.nodes.len(),
+            None => false,
+        }
     }
 
     /// Fires an event: its node reacts to it. After a refusal the part is given up and the effects are as before.

@@ -48,7 +48,7 @@ impl<P: Pkt> Node<P> {
         firing.begin(key, self.scheduled);
         self.handle(tools, maker, key.time, load, firing)?;
         let scheduled = self.scheduled + firing.count();
-        if scheduled > limit {
+        if scheduled > self.first + limit {
             return Err(FireStop::Limit { node: key.node });
         }
         self.scheduled = scheduled;
