@@ -1,7 +1,6 @@
 -- A packet behind an IPv4 header.
-use Rattle.std.proofs.Common.{ℕ, ◌≡◌, ◌+◌, ◌<◌, ◌≤◌, List, [], ◌++◌, length, take, refl, sym, ap, ◌∙◌, arith}
+use Rattle.std.proofs.Common.{ℕ, ◌≡◌, ◌≤◌, List, [], sym, ap, ◌∙◌, arith}
 use Rattle.std.specs.Prelude.{slice_range}
-use Rattle.std.proofs.lemmas.List.{append-nil}
 use Rattle.sim_base.specs.declared.item.Kind.TheVariants.{Ipv4}
 use Rattle.sim_base.specs.Packet.{Packet, IsPacket, len, push_front, pop_front}
 use Rattle.sim_base.proofs.PacketLaws.{len-push_front, peek-push_front, pop_front-push_front}

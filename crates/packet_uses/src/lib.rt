@@ -9,5 +9,5 @@ mod tagged;
 mod tests;
 
 pub use datagram::{make_datagram, strip_ipv4};
-pub use parts::{flattened, pad_and_strip, split_and_join, split_off};
-pub use tagged::{tag_all, tag_once, take_tag};
+pub use parts::{flattened, header_len, pad_and_strip, split_and_join, split_off};
+pub use tagged::{is_tagged_at, tag_all, tag_once, take_tag};

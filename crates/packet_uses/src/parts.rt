@@ -3,6 +3,7 @@
 ghost use Rattle.std.specs.Prelude.{◌≡◌, ◌+◌, ◌≤◌, ◌<◌, [], IsTrue, length, IfOk, OnErr, OnOk};
 ghost use Rattle.sim_base.specs.Packet as packets;
 ghost use Rattle.sim_base.specs.Packet.{len, longest};
+ghost use Rattle.packet_uses.specs.Parts.{in_front};
 
 use pkt_face::Pkt;
 use sim_base::{Kind, NoMemory};
@@ -56,4 +57,17 @@ pub fn flattened<P: Pkt>(alloc: Global, packet: &P) -> Result<P, NoMemory>
     bytes.resize(packet.len() as usize, 0)?;
     packet.peek(0, bytes.as_mut_slice());
     P::from_bytes(alloc, &mut maker, packet.uid(), &bytes)
+}
+
+/// How many bytes stand in front of the payload: all where there is none.
+pub fn header_len<P: Pkt>(packet: &P) -> u32
+    ensures value { result ≡ in_front (P.plain packet.now).items }
+    ensures inside { result ≤ len (P.plain packet.now) }
+{
+    packet
+        .items()
+        .iter()
+        .take_while(|item| !item.kind.is(Kind::Payload))
+        .map(|item| item.left())
+        .sum()
 }

@@ -1,9 +1,10 @@
 //! Tags on bytes and on packets.
 
-ghost use Rattle.std.specs.Prelude.{◌≡◌, OnOk};
+ghost use Rattle.std.specs.Prelude.{◌≡◌, ◌↔◌, Any, IsTrue, OnOk};
 ghost use Rattle.sim_base.specs.Packet as packets;
 ghost use Rattle.sim_base.specs.PacketTags.{find_tag};
 ghost use Rattle.pkt_face.specs.Face.{GivesHeld, StopsAtHeld};
+ghost use Rattle.packet_uses.specs.Parts.{CoversAt};
 
 use pkt_face::Pkt;
 use sim_base::{Absent, NoMemory, TagStop};
@@ -32,4 +33,14 @@ pub fn take_tag<P: Pkt>(packet: &mut P, tag: u32) -> Result<u64, Absent>
     ensures after { P.plain packet.new ≡ packets.remove_tag tag (P.plain packet.old) }
 {
     packet.remove_tag(tag)
+}
+
+/// Whether a byte tag of this number covers the byte at `at`.
+pub fn is_tagged_at<P: Pkt>(packet: &P, tag: u32, at: u32) -> bool
+    ensures { IsTrue result ↔ Any (CoversAt tag at) (P.plain packet.now).byte_tags }
+{
+    packet
+        .byte_tags()
+        .iter()
+        .any(|held| held.tag == tag && held.from <= at && at < held.to)
 }

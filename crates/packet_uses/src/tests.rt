@@ -1,8 +1,8 @@
 //! The callers over the packet that copies everything.
 
 use crate::{
-    flattened, make_datagram, pad_and_strip, split_and_join, split_off, strip_ipv4, tag_all,
-    tag_once, take_tag,
+    flattened, header_len, is_tagged_at, make_datagram, pad_and_strip, split_and_join, split_off,
+    strip_ipv4, tag_all, tag_once, take_tag,
 };
 use header_forms::{Ipv4, Udp};
 use pkt_face::{Pkt, PlainPkt};
@@ -39,8 +39,10 @@ fn a_header_that_was_pushed_is_read_again(rt: HostRuntime) -> Result<(), Fail> {
     let mut packet: PlainPkt = make_datagram(rt.alloc(), &mut maker, UID, &IP, &UDP, 1024)?;
     assert_eq!(rt; packet.len(), 1052);
     assert_eq!(rt; packet.items().len(), 3);
+    assert_eq!(rt; header_len(&packet), 28);
     assert_eq!(rt; strip_ipv4(&mut packet), Ok(IP));
     assert_eq!(rt; packet.len(), 1032);
+    assert_eq!(rt; header_len(&packet), 8);
     let flat = flattened(rt.alloc(), &packet)?;
     assert_eq!(rt; flat.len(), 1032);
     assert_eq!(rt; flat.items().len(), 1);
@@ -83,7 +85,9 @@ fn tags_are_held_once(rt: HostRuntime) -> Result<(), Fail> {
     let mut maker = PlainPkt::maker(rt.alloc());
     let mut packet = PlainPkt::zeros(rt.alloc(), &mut maker, UID, 4)?;
     tag_all(&mut packet, 1, 8)?;
-    assert_eq!(rt; packet.byte_tags().len(), 1);
+    assert!(rt; is_tagged_at(&packet, 1, 3));
+    assert!(rt; !is_tagged_at(&packet, 1, 4));
+    assert!(rt; !is_tagged_at(&packet, 2, 3));
     assert_eq!(rt;
         tag_once(&mut packet, 1, 9),
         Err(TagStop::Present { value: 8 })

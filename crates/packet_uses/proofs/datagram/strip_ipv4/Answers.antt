@@ -1,4 +1,4 @@
-use Rattle.std.proofs.Common.{◌≡◌, [], Ok, arith, sym, ap, ◌∙◌}
+use Rattle.std.proofs.Common.{[], arith, sym, ◌∙◌}
 use Rattle.packet_uses.proofs.Stripped.{IsBehind, long, peeked, popped}
 use Rattle.packet_uses.proofs.datagram.strip_ipv4.Goals as goal
 

@@ -1,4 +1,4 @@
-use Rattle.std.proofs.Common.{ap, ◌∙◌, ◌≡◌, ◌≤◌, subst, arith}
+use Rattle.std.proofs.Common.{ap, ◌∙◌, ◌≡◌, subst, arith}
 use Rattle.std.specs.Result.{OnOk}
 use Rattle.sim_base.specs.Packet.{Packet, IsPacket, len, cut, join}
 use Rattle.sim_base.proofs.PacketLaws.{len-cut, cut-all}
