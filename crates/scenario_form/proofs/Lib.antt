@@ -10,4 +10,6 @@ pub mod Counted
 pub mod AnswerSteps
 pub mod FieldNumbers
 pub mod HeldNumbers
+pub mod AppKeys
+pub mod GroupLimits
 pub mod Within

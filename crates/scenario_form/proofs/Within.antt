@@ -1,5 +1,5 @@
 -- An accepted scenario is within the limits.
-use Rattle.std.proofs.Common.{◌≡◌, ℕ, zero, suc, ◌+◌, ◌≤◌, ◌<◌, ◌&&◌, nat_lt, if◌then◌else◌, Bool, true, false, List, [], ◌∷◌, length, map, get_or, Option, Some, None, Result, Ok, Err, codes, refl, arith}
+use Rattle.std.proofs.Common.{◌≡◌, ◌≢◌, ℕ, zero, suc, ◌+◌, ◌≤◌, ◌<◌, ◌&&◌, nat_lt, nat_eq, not, if◌then◌else◌, Bool, true, false, List, [], ◌∷◌, length, map, get_or, Option, Some, None, Result, Ok, Err, codes, refl, arith}
 use Rattle.std.specs.Prelude.{All}
 use Rattle.std.proofs.lemmas.List.Elements.{All-nil, All-cons}
 use Rattle.toml.specs.Data.{Members}
@@ -17,11 +17,16 @@ use Rattle.scenario_form.specs.Tables.{rows_of_kind, kind_at, link_of, link_chec
 use Rattle.scenario_form.specs.Walk.{scenario_in, refusal, section_check, top_check, walk_check, nodes_of, routing_at}
 use Rattle.scenario_form.specs.Across.{across_check}
 use Rattle.scenario_form.specs.Reading.{reading, read_document, document_of, scenario_limit, scenario_of}
-use Rattle.scenario_form.specs.Limits.{IsFromTo, IsLink, IsLan, IsRoute, IsApp, IsLoss, IsWithinLimits}
+use Rattle.scenario_form.specs.Limits.{IsFromTo, IsLink, IsLan, IsRoute, IsApp, IsLoss, HasKeys, IsWithinLimits}
 use Rattle.scenario_form.proofs.Steps.{first_ok, rest_ok, require_ok, refuse_ok}
 use Rattle.scenario_form.proofs.Counted.{few, field_ok}
 use Rattle.scenario_form.proofs.FieldNumbers.{left_true, right_true, same_number, must_number, may_number, if_number, if_rate, if_time, must_node, must_nodes, HasNodes}
 use Rattle.scenario_form.proofs.HeldNumbers.{rows_within, held_number, held_or}
+use Rattle.scenario_form.proofs.AppKeys.{app_keys}
+use Rattle.scenario_form.proofs.GroupLimits.{if_groups, if_rising}
+
+other_number : (n m : ℕ) → not (nat_eq n m) ≡ true → n ≢ m
+other_number n m h = grind arith
 
 -- a default within the bounds
 within : (least most n : ℕ) → least ≤ n → n ≤ most → IsFromTo least most n
@@ -33,9 +38,12 @@ link_field nodes t i lt h = field_ok nodes link_rows t i (may 0 [] flag) lt h
 a_link : (nodes : ℕ) (t : Members) → link_check nodes t ≡ Ok tt → IsLink nodes (link_of t)
 a_link nodes t h =
     let f : table_check nodes link_rows t ≡ Ok tt = first_ok (table_check nodes link_rows t) (link_own_check (link_of t)) h in
+    let own : link_own_check (link_of t) ≡ Ok tt = rest_ok (table_check nodes link_rows t) (link_own_check (link_of t)) h in
     record {
       a = must_node nodes 1 (codes "a") t (link_field nodes t 0 (omega arith) f);
       b = must_node nodes 2 (codes "b") t (link_field nodes t 1 (omega arith) f);
+      apart = other_number _ _ (require_ok _ _ (first_ok _ _ own));
+      network = require_ok _ _ (first_ok _ _ (rest_ok _ _ own));
       prefix = may_number nodes 5 8 30 24 (codes "prefix") t (within 8 30 24 (omega arith) (omega arith)) (link_field nodes t 4 (omega arith) f);
       rate_bps = must_number nodes 6 1 1000000000000 (codes "rate_bps") t (link_field nodes t 5 (omega arith) f);
       delay_ns = must_number nodes 7 0 1000000000000 (codes "delay_ns") t (link_field nodes t 6 (omega arith) f);
@@ -73,6 +81,7 @@ a_route nodes routing t h =
     record {
       node = must_node nodes 1 (codes "node") t (field_ok nodes route_rows t 0 (may 0 [] flag) (omega arith) f);
       prefix = must_number nodes 3 0 30 (codes "prefix") t (field_ok nodes route_rows t 2 (may 0 [] flag) (omega arith) f);
+      dest = same_number _ _ (require_ok _ _ (rest_ok _ _ (rest_ok (table_check nodes route_rows t) (route_own_check routing (route_of t)) h)));
     }
 
 a_loss : (nodes : ℕ) (t : Members) → loss_check nodes t ≡ Ok tt → IsLoss nodes (loss_of t)
@@ -80,6 +89,7 @@ a_loss nodes t h =
     let f : table_check nodes loss_rows t ≡ Ok tt = first_ok (table_check nodes loss_rows t) (loss_own_check (loss_of t)) h in
     record {
       node = must_node nodes 1 (codes "node") t (field_ok nodes loss_rows t 0 (may 0 [] flag) (omega arith) f);
+      frames = if_rising nodes 3 1000000000 (codes "frames") t (field_ok nodes loss_rows t 2 (may 0 [] flag) (omega arith) f);
       millionths = if_number nodes 4 0 1000000 (codes "millionths") t (field_ok nodes loss_rows t 3 (may 0 [] flag) (omega arith) f);
     }
 
@@ -146,9 +156,10 @@ app_node nodes (Some OnOff) t h = must_node nodes 2 (codes "node") t (field_ok n
 app_node nodes (Some Ping) t h = must_node nodes 2 (codes "node") t (field_ok nodes (rows_of_kind (Some Ping)) t 1 (may 0 [] flag) (omega arith) h)
 app_node nodes (Some TcpBulk) t h = must_node nodes 2 (codes "node") t (field_ok nodes (rows_of_kind (Some TcpBulk)) t 1 (may 0 [] flag) (omega arith) h)
 
-app_of_kind : (nodes : ℕ) (o : Option Kind) (t : Members) → table_check nodes (rows_of_kind o) t ≡ Ok tt → IsApp nodes (app_of t)
-app_of_kind nodes o t h = record {
+app_of_kind : (nodes : ℕ) (o : Option Kind) (t : Members) → table_check nodes (rows_of_kind o) t ≡ Ok tt → HasKeys (app_of t).kind (app_of t) → IsApp nodes (app_of t)
+app_of_kind nodes o t h keys = record {
   node = app_node nodes o t h;
+  keys = keys;
   port = held_number nodes 1 49152 (codes "port") (rows_of_kind o) t (app_bound o 0 (omega arith)) h;
   start_ns = held_or nodes 0 1000000000000 0 (codes "start_ns") (rows_of_kind o) t (within 0 1000000000000 0 (omega arith) (omega arith)) (app_bound o 1 (omega arith)) h;
   count = held_or nodes 1 1000000000 1 (codes "count") (rows_of_kind o) t (within 1 1000000000 1 (omega arith) (omega arith)) (app_bound o 2 (omega arith)) h;
@@ -163,7 +174,7 @@ app_of_kind nodes o t h = record {
 }
 
 an_app : (nodes : ℕ) (t : Members) → app_check nodes t ≡ Ok tt → IsApp nodes (app_of t)
-an_app nodes t h = app_of_kind nodes (kind_at t) t h
+an_app nodes t h = app_of_kind nodes (kind_at t) t h (app_keys nodes (kind_at t) t h)
 
 -- ---- the scenario
 
@@ -185,8 +196,8 @@ go_on : {A E : Type 0} (c : Check E) (a : A) → c ≡ Ok tt → (c >> Ok a) ≡
 go_on (Ok tt) a h = refl
 go_on (Err e) a h = cc
 
-pub walked : (t : Members) → walk_check t ≡ Ok tt → IsWithinLimits (scenario_in t)
-walked t h =
+pub walked : (t : Members) → walk_check t ≡ Ok tt → across_check (scenario_in t) ≡ Ok tt → IsWithinLimits (scenario_in t)
+walked t h across =
     let c0 : Check Refusal = refuse_as (refusal 0 0) (top_check t) in
     let c1 : Check Refusal = section_check 1 0 (link_check (nodes_of t)) (tables_at (codes "link") t) in
     let c2 : Check Refusal = section_check 2 0 (lan_check (nodes_of t)) (tables_at (codes "lan") t) in
@@ -203,12 +214,14 @@ walked t h =
       stop_ns = must_number (nodes_of t) 3 0 1000000000000 (codes "stop_ns") t (top_field t 2 (omega arith) top);
       seed = may_number (nodes_of t) 4 0 9007199254740992 1 (codes "seed") t (within 0 9007199254740992 1 (omega arith) (omega arith)) (top_field t 3 (omega arith) top);
       events_per_node = may_number (nodes_of t) 5 1 1000000000 1000000 (codes "events_per_node") t (within 1 1000000000 1000000 (omega arith) (omega arith)) (top_field t 4 (omega arith) top);
+      groups = if_groups (nodes_of t) 8 (codes "groups") t (top_field t 7 (omega arith) top);
       few = few t (scenario_in t) (go_on (walk_check t) (scenario_in t) h);
       links = all_passed (IsLink (nodes_of t)) link_of (link_check (nodes_of t)) (a_link (nodes_of t)) 1 0 (tables_at (codes "link") t) (first_ok c1 (c2 >> (c3 >> (c4 >> c5))) r1);
       lans = all_passed (IsLan (nodes_of t)) lan_of (lan_check (nodes_of t)) (a_lan (nodes_of t)) 2 0 (tables_at (codes "lan") t) (first_ok c2 (c3 >> (c4 >> c5)) r2);
       routes = all_passed (IsRoute (nodes_of t)) route_of (route_check (nodes_of t) (routing_at t)) (a_route (nodes_of t) (routing_at t)) 3 0 (tables_at (codes "route") t) (first_ok c3 (c4 >> c5) r3);
       apps = all_passed (IsApp (nodes_of t)) app_of (app_check (nodes_of t)) (an_app (nodes_of t)) 4 0 (tables_at (codes "app") t) (first_ok c4 c5 r4);
       losses = all_passed (IsLoss (nodes_of t)) loss_of (loss_check (nodes_of t)) (a_loss (nodes_of t)) 5 0 (tables_at (codes "loss") t) (rest_ok c4 c5 r4);
+      across = across;
     }
 
 behind : {A E : Type 0} (c : Check E) (r : Result A E) (a : A) → (c >> r) ≡ Ok a → r ≡ Ok a
@@ -225,8 +238,9 @@ its_value (Err e) a b h = cc
 
 read : (t : Members) (s : Scenario) → reading t ≡ Ok s → IsWithinLimits s
 read t s h =
-    let same : scenario_in t ≡ s = its_value (across_check (scenario_in t)) (scenario_in t) s (behind (walk_check t) (across_check (scenario_in t) >> Ok (scenario_in t)) s h) in
-    rw (← same) (walked t (before (walk_check t) (across_check (scenario_in t) >> Ok (scenario_in t)) s h))
+    let passed : (across_check (scenario_in t) >> Ok (scenario_in t)) ≡ Ok s = behind (walk_check t) (across_check (scenario_in t) >> Ok (scenario_in t)) s h in
+    let same : scenario_in t ≡ s = its_value (across_check (scenario_in t)) (scenario_in t) s passed in
+    rw (← same) (walked t (before (walk_check t) (across_check (scenario_in t) >> Ok (scenario_in t)) s h) (before (across_check (scenario_in t)) (Ok (scenario_in t)) s passed))
 
 of_document : (o : Option Members) (s : Scenario) → read_document o ≡ Ok s → IsWithinLimits s
 of_document None s h = cc
