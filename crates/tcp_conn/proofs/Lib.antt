@@ -1,2 +1,9 @@
 pub mod Pumping
 pub mod Acknowledging
+pub mod Quiet
+pub mod SinkLaw
+pub mod OpenerState
+pub mod OpenerSends
+pub mod OpenerHears
+pub mod OpenerAsks
+pub mod Joined

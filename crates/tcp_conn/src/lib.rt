@@ -6,6 +6,7 @@ mod acknowledge;
 mod begin;
 mod connection;
 mod hear;
+mod law;
 mod pump;
 mod round_trip;
 mod send;
@@ -15,6 +16,7 @@ mod words;
 
 pub use begin::SINK_MSS;
 pub use connection::{Connection, Phase, Timed};
+pub use law::{deliveries_are_a_prefix, sinks_follow_the_law};
 pub use round_trip::RoundTrip;
 pub use words::{Effect, Heard, Outgoing};
 
