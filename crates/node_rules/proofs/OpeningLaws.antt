@@ -3,14 +3,16 @@ use Rattle.std.proofs.Common.{◌≡◌, ℕ, ◌<◌, List, [], ◌∷◌, leng
 use Rattle.std.specs.List.{AllByRecursion}
 use Rattle.std.specs.Prelude.{◌≢◌}
 use Rattle.sim_base.specs.Packet.{Packet}
+use Rattle.round_core.specs.Laws.{IsSound}
 use Rattle.round_core.specs.Opening.{HaveOwnKeys, IsOpening}
 use Rattle.round_core.specs.World.{Event}
+use Rattle.round_core.proofs.OpeningLaws.{opening-sound}
 use Rattle.node_step.specs.declared.loads.Event.{Event as NodeEvent}
 use Rattle.node_step.specs.declared.loads.Load.{Load}
 use Rattle.node_step.specs.Node.{PlainNode}
 use Rattle.node_rules.specs.Health.{IsWellEvent, IsWellNode, health}
 use Rattle.node_rules.specs.Rules.{rules}
-use Rattle.node_rules.specs.Worlds.{AreWellNodes, event_of, link_of, node_at, node_or, shape_of}
+use Rattle.node_rules.specs.Worlds.{AreFirstEvents, AreWellNodes, event_of, link_of, node_at, node_or, opening_world, shape_of}
 
 nothing-there : {A : Type 0} {P : Type 0} (i : ℕ) (x : A) → slice_get [] i ≡ Some x → P
 nothing-there i x h = absurd (let d : None ≡ Some x = h in cc)
@@ -34,14 +36,16 @@ own-keys : (events : List (NodeEvent Packet)) → HaveOwnKeys (λ e. e.key) even
 own-keys [] h = tt
 own-keys (e ∷ events) h = (all-over (λ (y : Event (Load Packet)). e.key ≢ y.key) event_of events h.0, own-keys events h.1)
 
-pub opens : (limit : ℕ) (nodes : List PlainNode) (events : List (NodeEvent Packet)) → AreWellNodes nodes →
-    AllByRecursion (λ e. IsWellEvent (shape_of nodes) (event_of e)) events → HaveOwnKeys (λ e. e.key) events →
-    AllByRecursion (λ e. e.key.count < (node_at nodes e.key.by.0).scheduled) events →
-    IsOpening (rules limit) (health (shape_of nodes)) (node_at nodes) (λ lan. tt) (map event_of events)
-opens limit nodes events well events_ok own counted = record {
-  nodes_ok = λ n. node-well nodes well n (slice_get nodes n) refl;
-  lans_ok = λ l. tt;
-  events_ok = all-over (IsWellEvent (shape_of nodes)) event_of events events_ok;
-  own_keys = own-keys events own;
-  counted = all-over (λ (e : Event (Load Packet)). e.key.count < (node_at nodes e.key.by.0).scheduled) event_of events counted;
-}
+module _ (limit : ℕ) (nodes : List PlainNode) (events : List (NodeEvent Packet)) (first : AreFirstEvents nodes events)
+    (well : AreWellNodes nodes) where
+  pub opens : IsOpening (rules limit) (health (shape_of nodes)) (node_at nodes) (λ lan. tt) (map event_of events)
+  opens = record {
+    nodes_ok = λ n. node-well nodes well n (slice_get nodes n) refl;
+    lans_ok = λ l. tt;
+    events_ok = all-over (IsWellEvent (shape_of nodes)) event_of events first.well;
+    own_keys = own-keys events first.own_keys;
+    counted = all-over (λ (e : Event (Load Packet)). e.key.count < (node_at nodes e.key.by.0).scheduled) event_of events first.counted;
+  }
+
+  pub opening-well : IsSound (rules limit) (health (shape_of nodes)) (opening_world nodes events)
+  opening-well = opening-sound (rules limit) (health (shape_of nodes)) (node_at nodes) (λ lan. tt) (map event_of events) opens

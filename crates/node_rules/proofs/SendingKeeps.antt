@@ -31,36 +31,33 @@ use Rattle.node_rules.proofs.DownKeeps.{send_packet-keeps}
 use Rattle.node_rules.proofs.Folds.{fold-keeps_all}
 use Rattle.node_rules.proofs.Kept.{Keeps, drop-keeps, numbers-keep}
 
--- a step leaves the number of the node
-abbrev pub IsOfNode : {A : Type 0} → Numbers → Made A → Type 0
-IsOfNode numbers made = made.numbers.node ≡ numbers.node
-
 sent-node : (numbers : Numbers) (src : Option ℕ) (dst proto : ℕ) (packet : Packet) (way : Option Way) →
-    IsOfNode numbers (sent numbers src dst proto packet way)
+    (sent numbers src dst proto packet way).numbers.node ≡ numbers.node
 sent-node numbers src dst proto packet None = refl
 sent-node numbers src dst proto packet (Some way) = refl
 
-abbrev IsOf : Numbers → Made (PortsAct Packet) → Type 0
-IsOf numbers made = made.numbers.node ≡ numbers.node
+-- a step of UDP or ICMP leaves the number of the node
+abbrev pub IsOfNode : Numbers → Made (PortsAct Packet) → Type 0
+IsOfNode numbers made = made.numbers.node ≡ numbers.node
 
 understood-node : (ports : PlainPorts) (head : Ipv4) (icmp : Icmp) (packet : Packet) (numbers : Numbers) →
-    IsOf numbers (understood ports head icmp packet numbers)
+    IsOfNode numbers (understood ports head icmp packet numbers)
 understood-node ports head icmp packet numbers =
-    cond_both (is_request icmp) (replied head icmp packet numbers) _ (IsOf numbers) (λ request. refl)
-    (λ other. cond_both (is_reply icmp) (reply_given ports head icmp packet numbers) (nothing numbers) (IsOf numbers) (λ reply. refl) (λ ignored. refl))
+    cond_both (is_request icmp) (replied head icmp packet numbers) _ (IsOfNode numbers) (λ request. refl)
+    (λ other. cond_both (is_reply icmp) (reply_given ports head icmp packet numbers) (nothing numbers) (IsOfNode numbers) (λ reply. refl) (λ ignored. refl))
 
 icmp-node : (ports : PlainPorts) (head : Ipv4) (packet : Packet) (numbers : Numbers) (icmp : Option Icmp) →
-    IsOf numbers (icmp_headed ports head packet numbers icmp)
+    IsOfNode numbers (icmp_headed ports head packet numbers icmp)
 icmp-node ports head packet numbers None = refl
 icmp-node ports head packet numbers (Some icmp) =
-    cond_both (checksum packet.bytes == 0) (understood ports head icmp packet numbers) _ (IsOf numbers)
+    cond_both (checksum packet.bytes == 0) (understood ports head icmp packet numbers) _ (IsOfNode numbers)
     (λ right. understood-node ports head icmp packet numbers) (λ wrong. refl)
 
-reported-node : (kind code : ℕ) (head : Ipv4) (packet : Packet) (numbers : Numbers) → IsOf numbers (reported kind code head packet numbers)
+reported-node : (kind code : ℕ) (head : Ipv4) (packet : Packet) (numbers : Numbers) → IsOfNode numbers (reported kind code head packet numbers)
 reported-node kind code head packet numbers =
-    cond_both (is_told head packet) _ (nothing numbers) (IsOf numbers) (λ told. refl) (λ silent. refl)
+    cond_both (is_told head packet) _ (nothing numbers) (IsOfNode numbers) (λ told. refl) (λ silent. refl)
 
-pub ports-node : (ports : PlainPorts) (numbers : Numbers) (input : PortsIn Packet) → IsOf numbers (ports_step ports numbers input)
+pub ports-node : (ports : PlainPorts) (numbers : Numbers) (input : PortsIn Packet) → IsOfNode numbers (ports_step ports numbers input)
 ports-node ports numbers (UdpSend src sport dst port packet) = refl
 ports-node ports numbers (UdpArrive head packet) = refl
 ports-node ports numbers (PingSend dst rest packet) = refl

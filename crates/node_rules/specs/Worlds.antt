@@ -1,14 +1,15 @@
 -- The world of a list of nodes.
-use Rattle.std.specs.Prelude.{ℕ, ◌≡◌, List, [], map, length, Option, None, Some, slice_get}
+use Rattle.std.specs.Prelude.{ℕ, ◌≡◌, ◌<◌, List, [], map, length, Option, None, Some, slice_get}
+use Rattle.std.specs.List.{AllByRecursion}
 use Rattle.sim_base.specs.Packet.{Packet}
-use Rattle.round_core.specs.Opening.{opening}
+use Rattle.round_core.specs.Opening.{HaveOwnKeys, opening}
 use Rattle.round_core.specs.World.{Event, World}
 use Rattle.node_step.specs.declared.loads.Event.{Event as NodeEvent}
 use Rattle.node_step.specs.declared.loads.Load.{Load}
 use Rattle.node_step.specs.Firing.{Text}
 use Rattle.node_step.specs.Iface.{PlainIface}
 use Rattle.node_step.specs.Node.{PlainNode}
-use Rattle.node_rules.specs.Health.{Link, Shape, IsWellNode}
+use Rattle.node_rules.specs.Health.{Link, Shape, IsWellEvent, IsWellNode}
 use Rattle.node_rules.specs.Rules.{NoLan}
 
 -- a node with nothing: no event is for it
@@ -54,3 +55,9 @@ shape_of nodes = record {
 -- nodes that are well by what they have together
 abbrev pub AreWellNodes : List PlainNode → Type 0
 AreWellNodes nodes = (n : ℕ) (node : PlainNode) → slice_get nodes n ≡ Some node → IsWellNode (shape_of nodes) n node
+
+-- first events that the nodes can handle, each with a key of its own, and counted by the node that scheduled it
+pub record AreFirstEvents (nodes : List PlainNode) (events : List (NodeEvent Packet)) : Type 0 where
+  pub well : AllByRecursion (λ e. IsWellEvent (shape_of nodes) (event_of e)) events
+  pub own_keys : HaveOwnKeys (λ e. e.key) events
+  pub counted : AllByRecursion (λ e. e.key.count < (node_at nodes e.key.by.0).scheduled) events

@@ -2,14 +2,13 @@
 //! rounds at these. The crate has definitions and laws alone, no code that runs.
 #![tactic(auto)]
 
-ghost use Rattle.std.specs.List.{AllByRecursion};
 ghost use Rattle.std.specs.Prelude.{◌≡◌, ◌<◌, ◌≤◌, ◌^◌, ◌↔◌, ℕ, Bool, List, Option, None, Some, length, map, slice_get};
 ghost use Rattle.sim_base.specs.declared.key.Key.{Key as PlainKey};
 ghost use Rattle.sim_base.specs.Packet.{Packet};
 ghost use Rattle.round_core.specs.Bound.{IsBounded};
-ghost use Rattle.round_core.specs.Laws.{IsLawful};
+ghost use Rattle.round_core.specs.Laws.{IsLawful, IsSound};
 ghost use Rattle.round_core.specs.Lookahead.{IsPositive, LooksAhead};
-ghost use Rattle.round_core.specs.Opening.{HaveOwnKeys, IsOpening};
+ghost use Rattle.round_core.specs.Opening.{IsOpening};
 ghost use Rattle.round_core.specs.World.{Limit, Rests, World, first};
 ghost use Rattle.node_step.specs.declared.loads.Event.{Event};
 ghost use Rattle.node_step.specs.declared.loads.Load.{Load};
@@ -19,7 +18,7 @@ ghost use Rattle.node_step.specs.Part.{CanFire, Fired, PlainPart, fire, place_of
 ghost use Rattle.node_rules.specs.Firings.{FiresSo, HoldsAll, IsNextFiring};
 ghost use Rattle.node_rules.specs.Health.{IsCutBy, IsWellEvent, IsWellNode, Shape, health};
 ghost use Rattle.node_rules.specs.Rules.{NoLan, room, rules};
-ghost use Rattle.node_rules.specs.Worlds.{AreWellNodes, event_of, node_at, shape_of};
+ghost use Rattle.node_rules.specs.Worlds.{AreFirstEvents, AreWellNodes, event_of, node_at, opening_world, shape_of};
 
 /// What a node schedules comes at least 1 ns later and is counted, and nodes and events stay well.
 pub fn the_reaction_is_lawful()
@@ -70,11 +69,10 @@ pub fn well_events_can_fire()
         slice_get part.nodes (place_of e.key.node.0 part) ≡ Some node → e.key.time.0 ≤ 10 ^ 12 → CanFire e part }
 {}
 
-/// Nodes that are well by what they have together, and first events that are well, each with a key of its own and counted
-/// by the node that scheduled it, open a world.
+/// Nodes that are well by what they have together, and first events for them, open a world, and it is sound.
 pub fn well_nodes_open_a_world()
-    ensures { (limit : ℕ) (nodes : List PlainNode) (events : List (Event Packet)) → AreWellNodes nodes →
-        AllByRecursion (λ e. IsWellEvent (shape_of nodes) (event_of e)) events → HaveOwnKeys (λ e. e.key) events →
-        AllByRecursion (λ e. e.key.count < (node_at nodes e.key.by.0).scheduled) events →
-        IsOpening (rules limit) (health (shape_of nodes)) (node_at nodes) (λ lan. tt) (map event_of events) }
+    ensures opening { (limit : ℕ) (nodes : List PlainNode) (events : List (Event Packet)) → AreFirstEvents nodes events →
+        AreWellNodes nodes → IsOpening (rules limit) (health (shape_of nodes)) (node_at nodes) (λ lan. tt) (map event_of events) }
+    ensures sound { (limit : ℕ) (nodes : List PlainNode) (events : List (Event Packet)) → AreFirstEvents nodes events →
+        AreWellNodes nodes → IsSound (rules limit) (health (shape_of nodes)) (opening_world nodes events) }
 {}

@@ -1,5 +1,8 @@
-use Rattle.node_rules.proofs.OpeningLaws.{opens}
+use Rattle.node_rules.proofs.OpeningLaws.{opening-well, opens}
 use Rattle.node_rules.proofs.well_nodes_open_a_world.Goals as goal
 
-pub returns : goal.returns
-returns c limit nodes events well events_ok own counted = opens limit nodes events well events_ok own counted
+pub returns-clause-opening : goal.returns-clause-opening
+returns-clause-opening c limit nodes events first well = opens limit nodes events first well
+
+pub returns-clause-sound : goal.returns-clause-sound
+returns-clause-sound c limit nodes events first well = opening-well limit nodes events first well
