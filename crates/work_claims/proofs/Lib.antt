@@ -1,0 +1,9 @@
+pub mod Totals
+pub mod DrawnLaws
+pub mod PassLaws
+pub mod Counting
+pub mod Draws
+pub mod Turns
+pub mod Dealing
+pub mod Gathering
+pub mod Closing
