@@ -1,5 +1,5 @@
 -- Joining pairs of nodes gives one label to nodes exactly where a walk joins them.
-use Rattle.std.proofs.Common.{◌≡◌, ◌≢◌, ◌==◌, ℕ, ◌<◌, ◌≤◌, ◌+◌, List, [], ◌∷◌, length, map, get_or, fold, min, max, All, Contains, Bool, true, false, if◌then◌else◌, refl, sym, ap, ◌∙◌, subst, arith, inl, inr, ◌⊎◌}
+use Rattle.std.proofs.Common.{◌≡◌, ◌≢◌, ◌==◌, ℕ, ◌<◌, List, [], ◌∷◌, length, get_or, fold, min, max, All, Contains, if◌then◌else◌, refl, sym, ap, ◌∙◌, subst, arith, inl, inr, ◌⊎◌}
 use Rattle.std.specs.List.{AllByRecursion, range_with_len}
 use Rattle.std.proofs.lemmas.Bool.{cases_eq, cases_lt, eq-eqb, ne_eqb}
 use Rattle.std.proofs.lemmas.List.{length-map, get_or-map}
@@ -14,19 +14,19 @@ walk-append pairs n m k (Goes {m = next} has walk) more = Goes {n = n} {m = next
 walk-append pairs n m k (Comes {m = next} has walk) more = Comes {n = n} {m = next} {k = k} has (walk-append pairs next m k walk more)
 
 -- one label in another's place
-abbrev replaced : ℕ → ℕ → ℕ → ℕ
+abbrev pub replaced : ℕ → ℕ → ℕ → ℕ
 replaced high low label = if label == high then low else label
 
-replaced-there : (high low label : ℕ) → label ≡ high → replaced high low label ≡ low
+pub replaced-there : (high low label : ℕ) → label ≡ high → replaced high low label ≡ low
 replaced-there high low label e = let t = eq-eqb label high e in rw t refl
 
-replaced-other : (high low label : ℕ) → label ≢ high → replaced high low label ≡ label
+pub replaced-other : (high low label : ℕ) → label ≢ high → replaced high low label ≡ label
 replaced-other high low label ne = let f = ne_eqb label high ne in rw f refl
 
 pub length-joined : (labels : List ℕ) (pair : ℕ × ℕ) → length (joined labels pair) ≡ length labels
 length-joined labels pair = length-map labels (replaced (max (get_or labels pair.0 0) (get_or labels pair.1 0)) (min (get_or labels pair.0 0) (get_or labels pair.1 0)))
 
-joined-at : (labels : List ℕ) (a b i : ℕ) → i < length labels →
+pub joined-at : (labels : List ℕ) (a b i : ℕ) → i < length labels →
     get_or (joined labels (a, b)) i 0 ≡ replaced (max (get_or labels a 0) (get_or labels b 0)) (min (get_or labels a 0) (get_or labels b 0)) (get_or labels i 0)
 joined-at labels a b i lt =
     get_or-map (replaced (max (get_or labels a 0) (get_or labels b 0)) (min (get_or labels a 0) (get_or labels b 0))) labels i 0 0 lt
@@ -163,21 +163,6 @@ fold-walks all (pair ∷ pairs) labels low has walks =
     fold-walks all pairs (joined labels pair) (subst P (sym l) low.1) has.1
     (joined-walks all labels pair.0 pair.1 low.0.0 low.0.1 has.0 walks)
 
--- a pair of one label changes nothing
-map-same : (f : ℕ → ℕ) (xs : List ℕ) → ((x : ℕ) → f x ≡ x) → map f xs ≡ xs
-map-same f [] same = refl
-map-same f (x ∷ xs) same = let rest = map-same f xs same in let e = same x in cc
-
-pub joined-one : (labels : List ℕ) (a b : ℕ) → get_or labels a 0 ≡ get_or labels b 0 → labels ≡ joined labels (a, b)
-joined-one labels a b same =
-    let x = get_or labels a 0 in
-    let y = get_or labels b 0 in
-    let low : min x y ≡ max x y = omega arith in
-    sym (map-same (replaced (max x y) (min x y)) labels (λ label. elim (cases_eq label (max x y)) [
-      | inl e ↦ replaced-there (max x y) (min x y) label e ∙ low ∙ sym e
-      | inr ne ↦ replaced-other (max x y) (min x y) label ne
-    ]))
-
 -- joining keeps labels settled
 pub joined-settled : (labels : List ℕ) (a b : ℕ) → a < length labels → b < length labels → AreSettled labels → AreSettled (joined labels (a, b))
 joined-settled labels a b a_in b_in settled i i_in =
@@ -226,7 +211,7 @@ fold-settled (pair ∷ pairs) labels low settled =
     let P : ℕ → Type 0 = λ n. AreIn n pairs in
     fold-settled pairs (joined labels pair) (subst P (sym l) low.1) (joined-settled labels pair.0 pair.1 low.0.0 low.0.1 settled)
 
-range-at : (n i : ℕ) → i < n → get_or (range_with_len 0 n) i 0 ≡ i
+pub range-at : (n i : ℕ) → i < n → get_or (range_with_len 0 n) i 0 ≡ i
 range-at n i lt = let e = get_or-range_with_len 0 n i 0 lt in omega arith
 
 pub range-settled : (n : ℕ) → AreSettled (range_with_len 0 n)

@@ -4,6 +4,7 @@ pub mod FewGroups
 pub mod LookaheadLaws
 pub mod VerdictLaws
 pub mod JoinLaws
+pub mod ForestLaws
 pub mod RankLaws
 pub mod PairLaws
 pub mod AutoLaws

@@ -2,3 +2,4 @@ pub mod Network
 pub mod AllowedCut
 pub mod Refusal
 pub mod AutoCut
+pub mod Forest

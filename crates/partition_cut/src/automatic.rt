@@ -1,9 +1,10 @@
 //! The cut that keeps near nodes together: those of a LAN, and those of a link below the median delay.
 
-ghost use Rattle.std.specs.Prelude.{◌≡◌, ◌==◌, ◌≤◌, ◌<◌, ◌+◌, ◌-◌, ◌/◌, ◌^◌, ℕ, All, IfOk, fold, flat_map, length, map, slice_get, slice_index, if◌then◌else◌};
+ghost use Rattle.std.specs.Prelude.{◌≡◌, ◌==◌, ◌≤◌, ◌<◌, ◌+◌, ◌-◌, ◌/◌, ◌^◌, ℕ, List, All, IfOk, fold, flat_map, length, map, slice_get, slice_index, if◌then◌else◌};
 ghost use Rattle.std.specs.List.{range_with_len};
 ghost use Rattle.partition_cut.specs.AllowedCut.{IsCutOf};
 ghost use Rattle.partition_cut.specs.AutoCut.{AreSettled, IsAutoCut, IsMedian, is_kept, joined, pairs_of, pairs_of_lan, pairs_of_links, positive_delays, rank};
+ghost use Rattle.partition_cut.specs.Forest.{AreParents, LeadTo};
 ghost use Rattle.partition_cut.specs.Network.{IsShape, node_lists, nodes_of};
 
 use crate::lookahead::least_cut_delay;
@@ -38,36 +39,37 @@ fn median(mut delays: Vec<u64>) -> Result<Option<u64>, NoMemory>
     Ok(middle_of(delays.as_slice()))
 }
 
-/// A label, or the one that takes its place.
-fn replaced_label(label: u32, from: u32, to: u32) -> u32
-    ensures { result ≡ (if label == from then to else label) }
+/// The root above a node. On the way up, nodes get their parents' parents in place of their parents.
+fn root_of(parents: &mut [u32], node: u32) -> u32
+    requires below { AreParents parents.old }
+    requires node_in { node < length parents.old }
+    ensures below { AreParents parents.new }
+    ensures root_in { result < length parents.new }
+    ensures leads { (labels : List ℕ) → LeadTo parents.old labels → LeadTo parents.new labels
+        × (result ≡ slice_index labels node) × (slice_index labels result ≡ result) }
 {
-    if label == from { to } else { label }
+    let mut at = node;
+    while parents[at as usize] != at {
+        let above = parents[parents[at as usize] as usize];
+        parents[at as usize] = above;
+        at = above;
+    }
+    at
 }
 
-/// Puts one label in another's place.
-fn replace_label(labels: &mut [u32], from: u32, to: u32)
-    ensures { labels.new ≡ map (λ label. if label == from then to else label) labels.old }
+/// Makes one tree of those of two nodes, under the lesser root.
+fn join(parents: &mut [u32], a: u32, b: u32)
+    requires below { AreParents parents.old }
+    requires a_in { a < length parents.old }
+    requires b_in { b < length parents.old }
+    ensures below { AreParents parents.new }
+    ensures leads { (labels : List ℕ) → LeadTo parents.old labels → LeadTo parents.new (joined labels (a, b)) }
 {
-    for label in labels.iter_mut() {
-        *label = replaced_label(*label, from, to);
-    }
-}
-
-/// Makes the labels of two nodes one, the lesser.
-fn join(labels: &mut [u32], a: u32, b: u32)
-    requires a_in { a < length labels.old }
-    requires b_in { b < length labels.old }
-    ensures { labels.new ≡ joined labels.old (a, b) }
-{
-    let first = labels[a as usize];
-    let second = labels[b as usize];
-    if first == second {
-        return;
-    }
+    let first = root_of(parents, a);
+    let second = root_of(parents, b);
     let high = first.max(second);
     let low = first.min(second);
-    replace_label(labels, high, low);
+    parents[high as usize] = low;
 }
 
 /// Whether a link stays within a group.
@@ -81,66 +83,101 @@ fn is_link_kept(threshold: Option<u64>, link: &(u32, u32, Time)) -> bool
 }
 
 /// Joins the ends of a link that stays within a group.
-fn join_link(labels: &mut [u32], link: &(u32, u32, Time), threshold: Option<u64>)
-    requires a_in { link.now.0 < length labels.old }
-    requires b_in { link.now.1 < length labels.old }
-    ensures { labels.new ≡ (if is_kept threshold link.now then joined labels.old (link.now.0, link.now.1) else labels.old) }
+fn join_link(parents: &mut [u32], link: &(u32, u32, Time), threshold: Option<u64>)
+    requires below { AreParents parents.old }
+    requires ends { (link.now.0 < length parents.old) × (link.now.1 < length parents.old) }
+    ensures below { AreParents parents.new }
+    ensures leads { (labels : List ℕ) → LeadTo parents.old labels →
+        LeadTo parents.new (if is_kept threshold link.now then joined labels (link.now.0, link.now.1) else labels) }
 {
     if !is_link_kept(threshold, link) {
         return;
     }
-    join(labels, link.0, link.1);
+    join(parents, link.0, link.1);
 }
 
 /// Joins the ends of the links that stay within groups.
-fn join_links(labels: &mut [u32], links: &[(u32, u32, Time)], threshold: Option<u64>)
-    requires { All (λ link. (link.0 < length labels.old) × (link.1 < length labels.old)) links.now }
-    ensures { labels.new ≡ fold joined labels.old (pairs_of_links threshold links.now) }
+fn join_links(parents: &mut [u32], links: &[(u32, u32, Time)], threshold: Option<u64>)
+    requires below { AreParents parents.old }
+    requires ends { All (λ link. (link.0 < length parents.old) × (link.1 < length parents.old)) links.now }
+    ensures below { AreParents parents.new }
+    ensures leads { (labels : List ℕ) → LeadTo parents.old labels →
+        LeadTo parents.new (fold joined labels (pairs_of_links threshold links.now)) }
 {
     for link in links {
-        join_link(labels, link, threshold);
+        join_link(parents, link, threshold);
     }
 }
 
 /// Joins the members of a LAN.
-fn join_lan(labels: &mut [u32], lan: &[u32])
-    requires { All (λ member. member < length labels.old) lan.now }
-    ensures { labels.new ≡ fold joined labels.old (pairs_of_lan lan.now) }
+fn join_lan(parents: &mut [u32], lan: &[u32])
+    requires below { AreParents parents.old }
+    requires members { All (λ member. member < length parents.old) lan.now }
+    ensures below { AreParents parents.new }
+    ensures leads { (labels : List ℕ) → LeadTo parents.old labels →
+        LeadTo parents.new (fold joined labels (pairs_of_lan lan.now)) }
 {
     for member in lan {
-        join(labels, lan[0], *member);
+        join(parents, lan[0], *member);
     }
 }
 
 /// Joins the members of each LAN.
-fn join_lans(labels: &mut [u32], lans: &[Vec<u32>])
-    requires { All (λ lan. All (λ member. member < length labels.old) lan) (node_lists lans.now) }
-    ensures { labels.new ≡ fold joined labels.old (flat_map pairs_of_lan (node_lists lans.now)) }
+fn join_lans(parents: &mut [u32], lans: &[Vec<u32>])
+    requires below { AreParents parents.old }
+    requires members { All (λ lan. All (λ member. member < length parents.old) lan) (node_lists lans.now) }
+    ensures below { AreParents parents.new }
+    ensures leads { (labels : List ℕ) → LeadTo parents.old labels →
+        LeadTo parents.new (fold joined labels (flat_map pairs_of_lan (node_lists lans.now))) }
 {
     for lan in lans {
-        join_lan(labels, lan.as_slice());
+        join_lan(parents, lan.as_slice());
     }
 }
 
 /// Joins all that stays together.
-fn join_all(labels: &mut [u32], shape: &Shape, threshold: Option<u64>)
+fn join_all(parents: &mut [u32], shape: &Shape, threshold: Option<u64>)
+    requires below { AreParents parents.old }
     requires shape { IsShape shape.now }
-    requires each { length labels.old ≡ shape.now.nodes }
-    ensures { labels.new ≡ fold joined labels.old (pairs_of threshold shape.now) }
+    requires each { length parents.old ≡ shape.now.nodes }
+    ensures below { AreParents parents.new }
+    ensures leads { (labels : List ℕ) → LeadTo parents.old labels →
+        LeadTo parents.new (fold joined labels (pairs_of threshold shape.now)) }
 {
-    join_links(labels, &shape.links, threshold);
-    join_lans(labels, &shape.lans);
+    join_links(parents, &shape.links, threshold);
+    join_lans(parents, &shape.lans);
 }
 
-/// A label of its own for each node.
-fn own_labels(alloc: Global, nodes: u32) -> Result<Vec<u32>, NoMemory>
-    ensures { IfOk result (λ labels. labels.items ≡ range_with_len 0 nodes) }
+/// Puts each node's label in place of its parent.
+fn label_nodes(parents: &mut [u32])
+    requires { AreParents parents.old }
+    ensures { (labels : List ℕ) → LeadTo parents.old labels → parents.new ≡ labels }
 {
-    let mut labels = Vec::new(alloc);
-    for node in 0..nodes {
-        labels.push(node)?;
+    for node in 0..parents.len() {
+        let label = parents[parents[node] as usize];
+        parents[node] = label;
     }
-    Ok(labels)
+}
+
+/// Each node as its own parent.
+fn own_parents(alloc: Global, nodes: u32) -> Result<Vec<u32>, NoMemory>
+    ensures { IfOk result (λ parents. parents.items ≡ range_with_len 0 nodes) }
+{
+    let mut parents = Vec::new(alloc);
+    for node in 0..nodes {
+        parents.push(node)?;
+    }
+    Ok(parents)
+}
+
+/// Gives nodes that are their own parents the labels by which all that stays together is joined.
+fn join_and_label(nodes: &mut [u32], shape: &Shape, threshold: Option<u64>)
+    requires shape { IsShape shape.now }
+    requires own { nodes.old ≡ nodes_of shape.now }
+    ensures { nodes.new ≡ fold joined (nodes_of shape.now) (pairs_of threshold shape.now) }
+{
+    join_all(nodes, shape, threshold);
+    label_nodes(nodes);
 }
 
 /// The labels of nodes, equal where nodes stay together: the least of them.
@@ -149,9 +186,9 @@ fn labels_of(shape: &Shape, threshold: Option<u64>) -> Result<Vec<u32>, NoMemory
     ensures labels { IfOk result (λ labels. labels.items ≡ fold joined (nodes_of shape.now) (pairs_of threshold shape.now)) }
     ensures few { IfOk result (λ _. shape.now.nodes < 2 ^ 32) }
 {
-    let mut labels = own_labels(*shape.links.allocator(), shape.nodes)?;
-    join_all(&mut labels, shape, threshold);
-    Ok(labels)
+    let mut nodes = own_parents(*shape.links.allocator(), shape.nodes)?;
+    join_and_label(&mut nodes, shape, threshold);
+    Ok(nodes)
 }
 
 /// The number of a node's group: the next, where the node is the first of its label.

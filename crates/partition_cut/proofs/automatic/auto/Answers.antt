@@ -1,8 +1,8 @@
-use Rattle.std.proofs.Common.{◌≡◌, ◌∙◌, ◌<◌, ℕ, List, All, length, map, sym, ap, subst, arith}
+use Rattle.std.proofs.Common.{◌∙◌, ◌<◌, ℕ, List, All, length, map, sym, ap, subst, arith}
 use Rattle.partition_cut.specs.AllowedCut.{IsLookahead}
 use Rattle.partition_cut.specs.AutoCut.{AreSettled, IsMedian, positive_delays, rank}
 use Rattle.partition_cut.specs.Network.{Link, group_at}
-use Rattle.partition_cut.proofs.AutoLaws.{few-numbers, groups-allowed, groups-joined, groups-numbered, labels, labels-settled, length-labels, length-numbers, numbers-below}
+use Rattle.partition_cut.proofs.AutoLaws.{few-numbers, groups-allowed, groups-joined, groups-numbered, labels-settled, length-labels, length-numbers, numbers-below}
 use Rattle.partition_cut.proofs.automatic.auto.Goals as goal
 
 pub numbers_of-requires-clause-settled : goal.numbers_of-requires-clause-settled

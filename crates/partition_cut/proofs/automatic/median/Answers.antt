@@ -1,4 +1,4 @@
-use Rattle.std.proofs.Common.{◌≡◌, ◌∙◌, ℕ, ◌-◌, ◌/◌, List, length, slice_get, sym, ap}
+use Rattle.std.proofs.Common.{◌∙◌, ℕ, ◌-◌, ◌/◌, List, length, slice_get, sym, ap}
 use Rattle.partition_cut.proofs.automatic.median.Goals as goal
 
 pub returns : goal.returns

@@ -1,4 +1,4 @@
-use Rattle.std.proofs.Common.{◌≡◌, ◌∙◌, ◌==◌, ◌+◌, ◌<◌, ℕ, List, length, map, take, get_or, if◌then◌else◌, sym, ap, arith}
+use Rattle.std.proofs.Common.{◌∙◌, ◌==◌, ℕ, List, length, take, get_or, if◌then◌else◌, ap, arith}
 use Rattle.std.proofs.lemmas.List.{length-map, length-take-le}
 use Rattle.partition_cut.specs.AutoCut.{rank}
 use Rattle.partition_cut.proofs.RankLaws.{next-more, numbers-more, rank-le}
