@@ -1,0 +1,34 @@
+use Rattle.std.proofs.Common.{sym, subst, ap, ◌∙◌, ◌++◌, ◌≡◌}
+use Rattle.sim_base.specs.ByteTags.{shift}
+use Rattle.sim_base.specs.Items.{join_items}
+use Rattle.sim_base.specs.Packet.{IsPacket, len}
+use Rattle.sim_base.proofs.PacketLaws.{IsPacket-join}
+use Rattle.tag_lists.specs.TagLists.{TagLists, with_byte_tags}
+use Rattle.shared_packet.specs.Shared.{plain_packet}
+use Rattle.shared_packet.proofs.Made.{parts-join, tags_of}
+use Rattle.shared_packet.proofs.packet.SharedPktPkt.join.Goals as goal
+
+pub returns-clause-ok : goal.returns-clause-ok
+returns-clause-ok c =
+    let p = plain_packet c.args.self.now in
+    let q = plain_packet c.args.other.now in
+    parts-join p q c.join-2.new.self.bytes c.append.new.self c.join.new.self c.in_ok-join-2.ensures.ok
+    (c.in_ok-append.ensures.ok
+    ∙ ap (λ (t : TagLists). with_byte_tags (t.byte_tags ++ shift c.len.result q.byte_tags) t) c.in_ok-tags.ensures.ok
+    ∙ ap (λ n. with_byte_tags (p.byte_tags ++ shift n q.byte_tags) (tags_of p)) c.len.ensures)
+    (c.in_ok-join.ensures.ok ∙ ap (λ is. join_items is q.items) c.in_ok-items.ensures.ok)
+
+pub invariant_of-self-2 : goal.invariant_of-self-2
+invariant_of-self-2 c =
+    let p = plain_packet c.args.self.now in
+    let q = plain_packet c.args.other.now in
+    record {
+      valid =
+          subst IsPacket
+          (sym (parts-join p q c.join-2.new.self.bytes c.append.new.self c.join.new.self c.in_ok-join-2.ensures.ok
+          (c.in_ok-append.ensures.ok
+          ∙ ap (λ (t : TagLists). with_byte_tags (t.byte_tags ++ shift c.len.result q.byte_tags) t) c.in_ok-tags.ensures.ok
+          ∙ ap (λ n. with_byte_tags (p.byte_tags ++ shift n q.byte_tags) (tags_of p)) c.len.ensures)
+          (c.in_ok-join.ensures.ok ∙ ap (λ is. join_items is q.items) c.in_ok-items.ensures.ok)))
+          (IsPacket-join p q c.args.self.now.valid c.args.other.now.valid c.requires);
+    }
