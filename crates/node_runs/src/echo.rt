@@ -1,0 +1,60 @@
+//! The case of ns-3's first example: a client and an echo server at the two ends of a link.
+
+use crate::run::run;
+use crate::wiring::{FIRST_NET, first_tick, iface, way};
+use ipv4_core::{Ip, Routes, Table};
+use node_step::{LocalApp, Node, Part};
+use p2p_dev::P2p;
+use pkt_face::PlainPkt;
+use sim_base::{NoMemory, NodeId, Rate, Time};
+use std::alloc::Global;
+use std::collections::{BTreeMap, BTreeSet};
+use traffic_apps::{App, AppKind, Schedule};
+use udp_icmp::Ports;
+
+/// The node at one end, with an address and with one application, which listens at or sends from its port.
+fn end(
+    alloc: Global,
+    node: u32,
+    other: u32,
+    addr: u32,
+    app: LocalApp,
+) -> Result<Node<PlainPkt>, NoMemory> {
+    let mut near = BTreeMap::new(alloc);
+    near.insert(FIRST_NET, way(0, addr, None))?;
+    let mut own = BTreeSet::new(alloc);
+    own.insert(addr)?;
+    let mut udp = BTreeMap::new(alloc);
+    udp.insert(app.port(), 0)?;
+    let device = P2p::make(Rate(5_000_000), Time(2_000_000), true);
+    Ok(Node::make(
+        NodeId(node),
+        vec![in alloc; iface(alloc, node, 0, other, device)]?,
+        Ip::make(Routes::make(vec![in alloc; Table::make(24, near)]?), own),
+        Ports::make(udp, BTreeMap::new(alloc)),
+        vec![in alloc; app]?,
+    ))
+}
+
+/// One request of 1024 bytes to port 9, at 2 s.
+pub fn over_one_link(alloc: Global) -> Result<String, NoMemory> {
+    let schedule = Schedule {
+        size: 1024,
+        count: 1,
+        interval: Time(1_000_000_000),
+        priority: 0,
+    };
+    let client = AppKind::UdpEchoClient {
+        dst: FIRST_NET + 2,
+        port: 9,
+        schedule,
+    };
+    let client = LocalApp::make(App::make(1, client), 49153);
+    let server = LocalApp::make(App::make(0, AppKind::UdpEchoServer), 9);
+    let nodes = vec![in alloc;
+        end(alloc, 0, 1, FIRST_NET + 1, client)?,
+        end(alloc, 1, 0, FIRST_NET + 2, server)?,
+    ]?;
+    let part = Part::make(alloc, vec![in alloc; 0, 1]?, nodes, 1000);
+    run(alloc, part, first_tick(Time(2_000_000_000)))
+}

@@ -1,0 +1,18 @@
+//! Runs small networks, one event at a time, and writes what fires, the frames that are saved, and what is counted.
+#![tactic(auto)]
+
+mod echo;
+mod report;
+mod run;
+mod wiring;
+
+use anyhow::{Context, Result};
+
+fn main(rt: HostRuntime) -> Result<()> {
+    let alloc = rt.alloc();
+    let echo = echo::over_one_link(alloc).ok().context("no memory")?;
+    print!(rt; "{echo}")?;
+    let report = report::of_no_route(alloc).ok().context("no memory")?;
+    print!(rt; "{report}")?;
+    Ok(())
+}
