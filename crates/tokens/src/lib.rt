@@ -80,7 +80,7 @@ fn first_behind(tokens: &[Token], key: &Key) -> Option<usize>
 }
 
 /// Puts a token among others, in the order of their keys.
-fn put(tokens: &mut Vec<Token>, token: Token) -> Result<(), AllocError>
+pub fn put(tokens: &mut Vec<Token>, token: Token) -> Result<(), AllocError>
     ensures { IfOk result (λ _. map event_of tokens.new.items ≡
         insert_by (λ e. e.key) (event_of token) (map event_of tokens.old.items)) }
 {
@@ -127,7 +127,7 @@ fn first_below(tokens: &[Token], end: u64) -> Option<Token>
 }
 
 /// The group of a node.
-fn group_at(groups: &[u32], node: u32) -> u32
+pub fn group_at(groups: &[u32], node: u32) -> u32
     ensures { result ≡ group_of groups.now node }
 {
     groups.get(node as usize).copied().unwrap_or(0)
