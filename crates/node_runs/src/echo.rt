@@ -12,7 +12,13 @@ use std::collections::{BTreeMap, BTreeSet};
 use traffic_apps::{App, AppKind, Schedule};
 use udp_icmp::Ports;
 
-/// The node at one end, with an address and with one application, which listens at or sends from its port.
+/// The numbers of the two nodes.
+const CLIENT: u32 = 0;
+
+const SERVER: u32 = 1;
+
+/// The node at one end, with an address and with one application, which listens at or sends from its port. The client's
+/// first tick is the one event that is numbered before the run.
 fn end(
     alloc: Global,
     node: u32,
@@ -27,8 +33,10 @@ fn end(
     let mut udp = BTreeMap::new(alloc);
     udp.insert(app.port(), 0)?;
     let device = P2p::make(Rate(5_000_000), Time(2_000_000), true);
+    let first = if node == CLIENT { 1 } else { 0 };
     Ok(Node::make(
         NodeId(node),
+        first,
         vec![in alloc; iface(alloc, node, 0, other, device)]?,
         Ip::make(Routes::make(vec![in alloc; Table::make(24, near)]?), own),
         Ports::make(udp, BTreeMap::new(alloc)),
@@ -52,8 +60,8 @@ pub fn over_one_link(alloc: Global) -> Result<String, NoMemory> {
     let client = LocalApp::make(App::make(1, client), 49153);
     let server = LocalApp::make(App::make(0, AppKind::UdpEchoServer), 9);
     let nodes = vec![in alloc;
-        end(alloc, 0, 1, FIRST_NET + 1, client)?,
-        end(alloc, 1, 0, FIRST_NET + 2, server)?,
+        end(alloc, CLIENT, SERVER, FIRST_NET + 1, client)?,
+        end(alloc, SERVER, CLIENT, FIRST_NET + 2, server)?,
     ]?;
     let part = Part::make(alloc, vec![in alloc; 0, 1]?, nodes, 1000);
     run(alloc, part, first_tick(Time(2_000_000_000)))

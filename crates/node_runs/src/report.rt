@@ -44,6 +44,7 @@ fn sender(alloc: Global) -> Result<Node<PlainPkt>, NoMemory> {
     udp.insert(49153, 0)?;
     Ok(Node::make(
         NodeId(0),
+        1,
         vec![in alloc; iface(alloc, 0, 0, 1, device(true))]?,
         Ip::make(Routes::make(tables), own),
         Ports::make(udp, BTreeMap::new(alloc)),
@@ -61,6 +62,7 @@ fn router(alloc: Global) -> Result<Node<PlainPkt>, NoMemory> {
     own.insert(SECOND_NET + 1)?;
     Ok(Node::make(
         NodeId(1),
+        0,
         vec![in alloc;
             iface(alloc, 1, 0, 0, device(false)),
             iface(alloc, 1, 1, 2, device(false)),
