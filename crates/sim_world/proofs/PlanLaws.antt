@@ -1,0 +1,78 @@
+-- The plan of a scenario is within the limits, and its nodes are the scenario's.
+use Rattle.std.proofs.Common.{◌≡◌, ℕ, ◌<◌, ◌≤◌, List, [], length, map, get_or, sym, ap, subst, ◌∙◌, arith}
+use Rattle.std.specs.Prelude.{All}
+use Rattle.std.specs.List.{range_with_len, flat_map}
+use Rattle.std.proofs.lemmas.List.Elements.{All-weaker}
+use Rattle.scenario_form.specs.declared.scenario.Route.{Route}
+use Rattle.scenario_form.specs.declared.scenario.Scenario.{Scenario}
+use Rattle.scenario_form.specs.Limits.{IsWithinLimits, IsRoute}
+use Rattle.sim_base.specs.Packet.{Packet}
+use Rattle.node_step.specs.declared.loads.Event.{Event}
+use Rattle.node_step.specs.Node.{PlainNode}
+use Rattle.sim_world.specs.declared.plan.Plan.{Plan}
+use Rattle.sim_world.specs.declared.apps.Listed.{Listed}
+use Rattle.sim_world.specs.Grouping.{grouped}
+use Rattle.sim_world.specs.Ends.{IsEnd, ends_of}
+use Rattle.sim_world.specs.Ends as ends
+use Rattle.sim_world.specs.Routing as routing
+use Rattle.sim_world.specs.Apps.{IsListed, listed_from, installed_from}
+use Rattle.sim_world.specs.Apps as apps
+use Rattle.sim_world.specs.Ticks.{ticks_of}
+use Rattle.sim_world.specs.World.{PlainWorld, world_of, id, new_node, ends_in, routes_in, apps_in, node_in, ticks_in}
+use Rattle.sim_world.specs.Plan.{IsPlan, IsPlanOf, planned_node, planned_ticks}
+use Rattle.sim_world.proofs.GroupLaws.{length-grouped, get_or-grouped, all_grouped}
+use Rattle.sim_world.proofs.EndLaws.{all_ends_grouped}
+use Rattle.sim_world.proofs.AppLaws.{all_listed_grouped, few_listed}
+use Rattle.sim_world.proofs.RangeLaws.{map-same, flat_map-same}
+
+short_routes : (nodes : ℕ) (routes : List Route) → All (IsRoute nodes) routes → All (All (λ r. r.prefix ≤ 30)) (grouped routing.node_of nodes routes)
+short_routes nodes routes are =
+    let P : Route → Type 0 = λ r. r.prefix ≤ 30 in
+    all_grouped routing.node_of nodes P routes (All-weaker (IsRoute nodes) P (λ r is. is.prefix.to) routes are)
+
+pub within : (s : Scenario) (plan : Plan) → IsWithinLimits s → IsPlanOf s plan → IsPlan plan
+within s plan limits is =
+    let ends_long : length plan.ends.items ≡ s.nodes = ap length is.ends ∙ length-grouped ends.node_of s.nodes (ends_of s.links) in
+    let routes_long : length plan.routes.items ≡ s.nodes = ap length is.routes ∙ length-grouped routing.node_of s.nodes s.routes in
+    let apps_long : length plan.apps.items ≡ s.nodes = ap length is.apps ∙ length-grouped apps.node_of s.nodes (listed_from 0 s.apps) in
+    record {
+      routes_count = routes_long ∙ sym ends_long;
+      apps_count = apps_long ∙ sym ends_long;
+      ends = subst (All (All IsEnd)) (sym is.ends) (all_ends_grouped s.nodes s.links limits.links);
+      routes = subst (All (All (λ (r : Route). r.prefix ≤ 30))) (sym is.routes) (short_routes s.nodes s.routes limits.routes);
+      apps = subst (All (All IsListed)) (sym is.apps) (all_listed_grouped s.nodes s.apps limits.apps);
+      few = subst (All (λ (there : List Listed). length there ≤ 4000)) (sym is.apps) (few_listed s.nodes 4000 s.apps limits.few.apps);
+    }
+
+pub length-plan : (s : Scenario) (plan : Plan) → IsPlanOf s plan → s.nodes ≡ length plan.ends.items
+length-plan s plan is = sym (ap length is.ends ∙ length-grouped ends.node_of s.nodes (ends_of s.links))
+
+-- what stands at a node
+apps_at : (s : Scenario) (plan : Plan) (n : ℕ) → IsPlanOf s plan → n < s.nodes → installed_from 0 (get_or plan.apps.items n []) ≡ apps_in s n
+apps_at s plan n is lt = ap (λ groups. installed_from 0 (get_or groups n [])) is.apps ∙ ap (installed_from 0) (get_or-grouped apps.node_of s.nodes (listed_from 0 s.apps) n [] lt)
+
+same_node : (s : Scenario) (plan : Plan) (n : ℕ) → IsPlanOf s plan → n < s.nodes → planned_node plan n ≡ node_in s n
+same_node s plan n is lt =
+    let ends_here : get_or plan.ends.items n [] ≡ ends_in s n = ap (λ groups. get_or groups n []) is.ends ∙ get_or-grouped ends.node_of s.nodes (ends_of s.links) n [] lt in
+    let routes_here : get_or plan.routes.items n [] ≡ routes_in s n = ap (λ groups. get_or groups n []) is.routes ∙ get_or-grouped routing.node_of s.nodes s.routes n [] lt in
+    ap (λ es. new_node (id n) es (get_or plan.routes.items n []) (installed_from 0 (get_or plan.apps.items n []))) ends_here
+    ∙ ap (λ rs. new_node (id n) (ends_in s n) rs (installed_from 0 (get_or plan.apps.items n []))) routes_here
+    ∙ ap (new_node (id n) (ends_in s n) (routes_in s n)) (apps_at s plan n is lt)
+
+pub same_nodes : (s : Scenario) (plan : Plan) → IsPlanOf s plan → map (planned_node plan) (range_with_len 0 s.nodes) ≡ map (node_in s) (range_with_len 0 s.nodes)
+same_nodes s plan is = map-same (planned_node plan) (node_in s) 0 s.nodes (λ n lt. same_node s plan n is (omega (arith, lt)))
+
+pub same_ticks : (s : Scenario) (plan : Plan) → IsPlanOf s plan → flat_map (planned_ticks plan) (range_with_len 0 s.nodes) ≡ flat_map (ticks_in s) (range_with_len 0 s.nodes)
+same_ticks s plan is = flat_map-same (planned_ticks plan) (ticks_in s) 0 s.nodes (λ n lt. ap (ticks_of (id n)) (apps_at s plan n is (omega (arith, lt))))
+
+-- a world with these nodes and first events
+abbrev pub world : List PlainNode → List (Event Packet) → Scenario → PlainWorld
+world nodes first s = record { nodes = nodes; first = first; stop = s.stop_ns; limit = s.events_per_node }
+
+-- the whole
+pub world_is : (s : Scenario) (plan : Plan) (nodes : List PlainNode) (first : List (Event Packet)) → IsPlanOf s plan
+    → nodes ≡ map (planned_node plan) (range_with_len 0 s.nodes) → first ≡ flat_map (planned_ticks plan) (range_with_len 0 s.nodes)
+    → world nodes first s ≡ world_of s
+unfolding world_of
+world_is s plan nodes first is nodes_are first_are =
+    ap (λ ns. world ns first s) (nodes_are ∙ same_nodes s plan is) ∙ ap (λ es. world (map (node_in s) (range_with_len 0 s.nodes)) es s) (first_are ∙ same_ticks s plan is)

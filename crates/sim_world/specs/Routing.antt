@@ -1,0 +1,80 @@
+-- Where a node sends packets: to its own networks, and by the listed routes.
+use Rattle.std.specs.Prelude.{ℕ, zero, suc, ◌==◌, List, [], ◌∷◌, ◌++◌, map, fold, filter, find, filter_map, Option, None, Some, option_map}
+use Rattle.std.specs.Ordering.{nat_cmp}
+use Rattle.std.specs.BTreeMap.{BTreeMap, get, insert_entry}
+use Rattle.std.specs.BTreeSet.{insert_key}
+use Rattle.sim_base.specs.declared.key.NodeId.{NodeId}
+use Rattle.ipv4_core.specs.declared.routes.Table.{Table}
+use Rattle.ipv4_core.specs.declared.routes.Way.{Way}
+use Rattle.ipv4_core.specs.Routes.{PlainTable, network}
+use Rattle.ipv4_core.specs.Ip.{PlainIp}
+use Rattle.scenario_form.specs.declared.scenario.Route.{Route}
+use Rattle.sim_world.specs.declared.ends.End.{End}
+use Rattle.sim_world.specs.declared.routing.Entry.{Entry}
+
+abbrev pub node_of : Route → NodeId
+node_of r = r.node
+
+-- a way out of an interface, through a neighbour or to whoever has the address
+abbrev pub way_of : End → Option ℕ → Way
+way_of e via = record { iface = e.ends.iface; addr = e.addr; mtu = e.link.mtu; via = via }
+
+-- the network that an interface is on
+abbrev pub connected : End → Entry
+connected e = record { prefix = e.link.prefix; dest = network e.link.prefix e.addr; way = way_of e None }
+
+-- the interface whose link leads to an address
+abbrev pub toward : ℕ → List End → Option End
+toward via ends = find (λ e. e.peer_addr == via) ends
+
+abbrev pub listed_by : Route → End → Entry
+listed_by r e = record { prefix = r.prefix; dest = r.dest; way = way_of e (Some r.via) }
+
+-- a listed route leaves by the interface whose link leads to its next hop
+abbrev pub listed : List End → Route → Option Entry
+listed ends r = option_map (listed_by r) (toward r.via ends)
+
+-- the same by a map of the interfaces that lead to each address
+abbrev pub listed_in : BTreeMap ℕ End → Route → Option Entry
+listed_in by_peer r = option_map (listed_by r) (get nat_cmp by_peer r.via)
+
+-- the routes of a node with these interfaces: its networks, and then the listed ones
+abbrev pub entries_of : List End → List Route → List Entry
+entries_of ends routes = map connected ends ++ filter_map (listed ends) routes
+
+-- one more way to a network
+abbrev pub with_way : List (ℕ × Way) → Entry → List (ℕ × Way)
+with_way ways e = insert_entry nat_cmp ways e.dest e.way
+
+-- the ways to the networks of one prefix length, by network
+abbrev pub ways_of : ℕ → List Entry → List (ℕ × Way)
+ways_of prefix entries = fold with_way [] (filter (λ e. e.prefix == prefix) entries)
+
+-- a table, as contracts see it
+abbrev pub seen : Table → PlainTable
+seen t = record { prefix = t.prefix; ways = t.ways.entries }
+
+-- a table stands where there is a way
+abbrev pub with_table : ℕ → List (ℕ × Way) → List PlainTable → List PlainTable
+with_table prefix [] tables = tables
+with_table prefix (way ∷ ways) tables = record { prefix = prefix; ways = way ∷ ways } ∷ tables
+
+-- the tables of the prefix lengths below a number, the longest first
+unfoldable pub tables_below : ℕ → List Entry → List PlainTable
+tables_below zero entries = []
+tables_below (suc prefix) entries = with_table prefix (ways_of prefix entries) (tables_below prefix entries)
+
+-- the tables of a node's routes; no prefix is longer than 30
+abbrev pub tables_of : List Entry → List PlainTable
+tables_of entries = tables_below 31 entries
+
+-- one more address
+abbrev pub with_own : List ℕ → End → List ℕ
+with_own own e = insert_key nat_cmp own e.addr
+
+-- the addresses of a node
+abbrev pub own_of : List End → List ℕ
+own_of ends = fold with_own [] ends
+
+abbrev pub ip_of : List End → List Route → PlainIp
+ip_of ends routes = record { routes = tables_of (entries_of ends routes); own = own_of ends }

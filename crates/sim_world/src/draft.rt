@@ -1,0 +1,89 @@
+//! The nodes of a plan, one after the other.
+
+ghost use Rattle.std.specs.Prelude.{◌≡◌, ◌<◌, ◌≤◌, [], ◌∷◌, ◌++◌, length, map, All, IfOk, OnOk};
+ghost use Rattle.std.specs.List.{range_with_len, flat_map};
+ghost use Rattle.layer_words.specs.Acts.{Appends};
+ghost use Rattle.node_step.specs.Loads.{plain_event};
+ghost use Rattle.traffic_apps.specs.App.{IsKind};
+ghost use Rattle.sim_world.specs.Ends.{IsEnd};
+ghost use Rattle.sim_world.specs.Plan.{IsPlan, planned_node, planned_ticks};
+ghost use Rattle.sim_world.specs.World.{new_node};
+
+use crate::apps::{Installed, install, local_apps, ports};
+use crate::ends::{End, ifaces};
+use crate::plan::Plan;
+use crate::routing::ip;
+use crate::ticks::{schedule_ticks, tick_count};
+use node_step::{Event, Node};
+use pkt_face::Pkt;
+use scenario_form::Route;
+use sim_base::{NoMemory, NodeId};
+use std::alloc::Global;
+
+/// The nodes so far, and the first ticks of their applications.
+#[derive(Drop)]
+pub struct Draft<P: Pkt> {
+    pub nodes: Vec<Node<P>>,
+    pub first: Vec<Event<P>>,
+}
+
+impl<P: Pkt> Draft<P> {
+    /// The nodes of a plan, in the order of their numbers.
+    pub fn of(alloc: Global, nodes: u32, plan: &Plan) -> Result<Draft<P>, NoMemory>
+        requires plan { IsPlan plan.now }
+        requires nodes { nodes ≡ length plan.now.ends.items }
+        ensures nodes { IfOk result (λ draft. draft.nodes.items ≡ map (planned_node plan.now) (range_with_len 0 nodes)) }
+        ensures first { IfOk result (λ draft. map (plain_event P.plain) draft.first.items ≡ flat_map (planned_ticks plan.now) (range_with_len 0 nodes)) }
+    {
+        let mut draft = Draft {
+            nodes: Vec::with_capacity(alloc, nodes as usize)?,
+            first: Vec::new(alloc),
+        };
+        for number in 0..nodes {
+            draft.add_node(alloc, number, plan)?;
+        }
+        Ok(draft)
+    }
+
+    /// Adds a node of a plan behind the others, and the first ticks of its applications.
+    fn add_node(&mut self, alloc: Global, number: u32, plan: &Plan) -> Result<(), NoMemory>
+        requires plan { IsPlan plan.now }
+        requires there { number < length plan.now.ends.items }
+        ensures nodes { OnOk result (self.new.nodes.items ≡ self.old.nodes.items ++ planned_node plan.now number ∷ []) }
+        ensures first { OnOk result (Appends (plain_event P.plain) self.old.first.items self.new.first.items (planned_ticks plan.now number)) }
+    {
+        let here = number as usize;
+        let apps = install(alloc, plan.apps[here].as_slice())?;
+        let node = new_node(
+            alloc,
+            NodeId(number),
+            plan.ends[here].as_slice(),
+            plan.routes[here].as_slice(),
+            apps.as_slice(),
+        )?;
+        schedule_ticks(NodeId(number), apps.as_slice(), &mut self.first)?;
+        self.nodes.push(node)?;
+        Ok(())
+    }
+}
+
+/// A node that has done nothing yet, but has scheduled the first ticks of its applications.
+fn new_node<P: Pkt>(
+    alloc: Global,
+    number: NodeId,
+    ends: &[End],
+    routes: &[Route],
+    apps: &[Installed],
+) -> Result<Node<P>, NoMemory>
+    requires ends { All IsEnd ends.now }
+    requires routes { All (λ r. r.prefix ≤ 30) routes.now }
+    requires kinds { All (λ i. IsKind i.kind) apps.now }
+    requires few { length apps.now ≤ 4000 }
+    ensures { IfOk result (λ node. node ≡ new_node number ends.now routes.now apps.now) }
+{
+    let ifaces = ifaces(alloc, ends)?;
+    let ip = ip(alloc, ends, routes)?;
+    let ports = ports(alloc, apps)?;
+    let local = local_apps(alloc, apps)?;
+    Ok(Node::make(number, tick_count(apps), ifaces, ip, ports, local))
+}

@@ -1,0 +1,15 @@
+//! The world in which a run begins: the nodes of a scenario, and the first ticks of its applications.
+#![tactic(auto)]
+
+mod apps;
+mod draft;
+mod ends;
+mod grouping;
+mod not_built;
+mod plan;
+mod routing;
+mod ticks;
+mod world;
+
+pub use not_built::is_built;
+pub use world::World;

@@ -1,0 +1,220 @@
+//! Where a node sends packets: to its own networks, and by the listed routes.
+
+ghost use Rattle.std.specs.Prelude.{◌≡◌, ℕ, ◌≤◌, [], ◌++◌, map, All, IfOk, IfSome, OnOk};
+ghost use Rattle.std.specs.List.{filter_map};
+ghost use Rattle.std.specs.Ordering.{nat_cmp};
+ghost use Rattle.std.specs.BTreeMap.{get};
+ghost use Rattle.ipv4_core.specs.Routes.{network};
+ghost use Rattle.scenario_form.specs.Limits.{IsRoute};
+ghost use Rattle.sim_world.specs.Grouping.{grouped};
+ghost use Rattle.sim_world.specs.Ends.{IsEnd};
+ghost use Rattle.sim_world.specs.Routing.{node_of, connected, listed_by, listed_in, toward, entries_of, ways_of, seen, with_table, tables_of, own_of, ip_of};
+
+use crate::ends::End;
+use crate::grouping::{no_items, put};
+use ipv4_core::{Ip, Routes, Table, Way};
+use scenario_form::Route;
+use sim_base::{NoMemory, Sequence};
+use std::alloc::Global;
+use std::collections::{BTreeMap, BTreeSet};
+
+/// A route of a node: a network, by its prefix length and its address, and the way there.
+#[derive(Clone, Copy, Debug, PartialEq, Eq)]
+pub struct Entry {
+    pub prefix: u32,
+    pub dest: u32,
+    pub way: Way,
+}
+
+/// No prefix is longer than 30.
+const PREFIXES: u32 = 31;
+
+/// The listed routes of each node, in the scenario's order.
+pub fn routes_by_node(
+    alloc: Global,
+    nodes: u32,
+    routes: &[Route],
+) -> Result<Vec<Sequence<Route>>, NoMemory>
+    requires { All (IsRoute nodes) routes.now }
+    ensures { IfOk result (λ listed. listed.items ≡ grouped node_of nodes routes.now) }
+{
+    let mut listed = no_items(alloc, nodes)?;
+    for route in routes {
+        put(&mut listed, route.node, *route)?;
+    }
+    Ok(listed)
+}
+
+/// The routes and addresses of a node.
+pub fn ip(alloc: Global, ends: &[End], routes: &[Route]) -> Result<Ip, NoMemory>
+    requires ends { All IsEnd ends.now }
+    requires routes { All (λ r. r.prefix ≤ 30) routes.now }
+    ensures { IfOk result (λ ip. ip ≡ ip_of ends.now routes.now) }
+{
+    let entries = entries(alloc, ends, routes)?;
+    let tables = tables(alloc, entries.as_slice())?;
+    let own = own_addresses(alloc, ends)?;
+    Ok(Ip::make(tables, own))
+}
+
+/// The networks that the node is on, and then its listed routes.
+fn entries(alloc: Global, ends: &[End], routes: &[Route]) -> Result<Vec<Entry>, NoMemory>
+    requires ends { All IsEnd ends.now }
+    requires routes { All (λ r. r.prefix ≤ 30) routes.now }
+    ensures { IfOk result (λ entries. entries.items ≡ entries_of ends.now routes.now) }
+{
+    let by_peer = ends_by_peer(alloc, ends)?;
+    let mut entries = networks(alloc, ends)?;
+    add_listed(&mut entries, &by_peer, routes)?;
+    Ok(entries)
+}
+
+/// The networks that a node is on.
+fn networks(alloc: Global, ends: &[End]) -> Result<Vec<Entry>, NoMemory>
+    requires { All IsEnd ends.now }
+    ensures { IfOk result (λ entries. entries.items ≡ map connected ends.now) }
+{
+    let mut entries = Vec::with_capacity(alloc, ends.len())?;
+    for end in ends {
+        entries.push(connected(end))?;
+    }
+    Ok(entries)
+}
+
+/// Puts the listed routes behind the entries, each by the interface that leads to its next hop.
+fn add_listed(
+    entries: &mut Vec<Entry>,
+    by_peer: &BTreeMap<u32, End>,
+    routes: &[Route],
+) -> Result<(), NoMemory>
+    requires ends { (addr : ℕ) → IfSome (get nat_cmp by_peer.now addr) IsEnd }
+    requires routes { All (λ r. r.prefix ≤ 30) routes.now }
+    ensures { OnOk result (entries.new.items ≡ entries.old.items ++ filter_map (listed_in by_peer.now) routes.now) }
+{
+    for route in routes {
+        if let Some(entry) = listed(by_peer, route) {
+            entries.push(entry)?;
+        }
+    }
+    Ok(())
+}
+
+/// The first interface that leads to each address.
+fn ends_by_peer(alloc: Global, ends: &[End]) -> Result<BTreeMap<u32, End>, NoMemory>
+    ensures { IfOk result (λ by_peer. (addr : ℕ) → get nat_cmp by_peer addr ≡ toward addr ends.now) }
+{
+    let mut by_peer = BTreeMap::new(alloc);
+    for end in ends {
+        if !by_peer.contains_key(&end.peer_addr) {
+            by_peer.insert(end.peer_addr, *end)?;
+        }
+    }
+    Ok(by_peer)
+}
+
+/// The network that an interface is on.
+fn connected(end: &End) -> Entry
+    requires { IsEnd end.now }
+    ensures { result ≡ connected end.now }
+{
+    let prefix = end.link.prefix as u32;
+    Entry {
+        prefix,
+        dest: network(end.addr, prefix),
+        way: Way {
+            iface: end.ends.iface,
+            addr: end.addr,
+            mtu: end.link.mtu as u32,
+            via: None,
+        },
+    }
+}
+
+/// A listed route, if an interface leads to its next hop.
+fn listed(by_peer: &BTreeMap<u32, End>, route: &Route) -> Option<Entry>
+    requires ends { (addr : ℕ) → IfSome (get nat_cmp by_peer.now addr) IsEnd }
+    requires route { route.now.prefix ≤ 30 }
+    ensures { result ≡ listed_in by_peer.now route.now }
+{
+    match by_peer.get(&route.via) {
+        Some(end) => Some(listed_by(route, end)),
+        None => None,
+    }
+}
+
+/// A listed route that leaves by an interface.
+fn listed_by(route: &Route, end: &End) -> Entry
+    requires route { route.now.prefix ≤ 30 }
+    requires end { end.now.link.mtu ≤ 65535 }
+    ensures { result ≡ listed_by route.now end.now }
+{
+    Entry {
+        prefix: route.prefix as u32,
+        dest: route.dest,
+        way: Way {
+            iface: end.ends.iface,
+            addr: end.addr,
+            mtu: end.link.mtu as u32,
+            via: Some(route.via),
+        },
+    }
+}
+
+/// An address with the bits beyond the prefix cleared.
+fn network(addr: u32, prefix: u32) -> u32
+    requires { prefix ≤ 32 }
+    ensures { result ≡ network prefix addr }
+{
+    let size = 1u64 << (32 - prefix);
+    (u64::from(addr) - u64::from(addr) % size) as u32
+}
+
+/// A table for each prefix length that some route has, the longest first.
+fn tables(alloc: Global, entries: &[Entry]) -> Result<Routes, NoMemory>
+    ensures { IfOk result (λ routes. routes ≡ tables_of entries.now) }
+{
+    let mut tables = Vec::new(alloc);
+    let mut prefix = PREFIXES;
+    while prefix > 0 {
+        prefix -= 1;
+        let ways = ways(alloc, prefix, entries)?;
+        add_table(&mut tables, prefix, ways)?;
+    }
+    Ok(Routes::make(tables))
+}
+
+/// Puts a table behind the others, if it has a way.
+fn add_table(tables: &mut Vec<Table>, prefix: u32, ways: BTreeMap<u32, Way>) -> Result<(), NoMemory>
+    requires { prefix ≤ 32 }
+    ensures { OnOk result (map seen tables.new.items ≡ map seen tables.old.items ++ with_table prefix ways.entries []) }
+{
+    if ways.is_empty() {
+        return Ok(());
+    }
+    tables.push(Table::make(prefix, ways))?;
+    Ok(())
+}
+
+/// The ways to the networks of one prefix length.
+fn ways(alloc: Global, prefix: u32, entries: &[Entry]) -> Result<BTreeMap<u32, Way>, NoMemory>
+    ensures { IfOk result (λ ways. ways.entries ≡ ways_of prefix entries.now) }
+{
+    let mut ways = BTreeMap::new(alloc);
+    for entry in entries {
+        if entry.prefix == prefix {
+            ways.insert(entry.dest, entry.way)?;
+        }
+    }
+    Ok(ways)
+}
+
+/// The addresses of a node.
+fn own_addresses(alloc: Global, ends: &[End]) -> Result<BTreeSet<u32>, NoMemory>
+    ensures { IfOk result (λ own. own.keys ≡ own_of ends.now) }
+{
+    let mut own = BTreeSet::new(alloc);
+    for end in ends {
+        own.insert(end.addr)?;
+    }
+    Ok(own)
+}

@@ -1,0 +1,90 @@
+//! The world in which the run of a scenario begins.
+
+ghost use Rattle.std.specs.Prelude.{◌≡◌, false, length, map, IfOk};
+ghost use Rattle.std.specs.List.{range_with_len};
+ghost use Rattle.node_step.specs.Loads.{plain_event};
+ghost use Rattle.scenario_form.specs.Limits.{IsWithinLimits};
+ghost use Rattle.sim_world.specs.NotBuilt.{not_built};
+
+use crate::draft::Draft;
+use crate::plan::Plan;
+use node_step::{Event, Node, Part};
+use pkt_face::Pkt;
+use scenario_form::Scenario;
+use sim_base::{NoMemory, Time};
+use std::alloc::Global;
+use std::marker::Model;
+
+/// The nodes of a scenario before its run, and the events that come first.
+#[derive(Drop)]
+pub struct World<P: Pkt> {
+    places: Vec<u32>,
+    nodes: Vec<Node<P>>,
+    first: Vec<Event<P>>,
+    stop: Time,
+    limit: u64,
+}
+
+impl<P: Pkt> Model for World<P> {
+    ghost use Rattle.std.specs.Prelude.{◌≡◌, ◌≤◌, ◌^◌, map, length};
+    ghost use Rattle.std.specs.List.{range_with_len};
+    ghost use Rattle.node_step.specs.Loads.{plain_event};
+    ghost use Rattle.sim_world.specs.World.{PlainWorld};
+
+    ghost Value = { PlainWorld };
+
+    ghost view = { λ w. record { nodes = w.nodes.items; first = map (plain_event P.plain) w.first.items; stop = w.stop; limit = w.limit } };
+
+    ghost invariant = { λ w. (w.places.items ≡ range_with_len 0 (length w.nodes.items)) × (w.limit ≤ 10 ^ 9) };
+}
+
+impl<P: Pkt> World<P> {
+    ghost use Rattle.sim_world.specs.World.{world_of};
+
+    /// The world of a scenario that is built.
+    pub fn make(alloc: Global, scenario: &Scenario) -> Result<World<P>, NoMemory>
+        requires limits { IsWithinLimits scenario.now }
+        requires built { not_built scenario.now ≡ false }
+        ensures { IfOk result (λ world. world ≡ world_of scenario.now) }
+    {
+        let plan = Plan::of(alloc, scenario)?;
+        let draft = Draft::of(alloc, scenario.nodes, &plan)?;
+        let places = places(alloc, scenario.nodes)?;
+        let Draft { nodes, first } = draft;
+        Ok(World {
+            places,
+            nodes,
+            first,
+            stop: scenario.stop_ns,
+            limit: scenario.events_per_node,
+        })
+    }
+
+    /// The world as one part, and its first events.
+    pub fn whole(self) -> (Part<P>, Vec<Event<P>>)
+        ensures part { result.0 ≡ record { places = range_with_len 0 (length self.nodes); nodes = self.nodes; limit = self.limit } }
+        ensures first { map (plain_event P.plain) result.1.items ≡ self.first }
+    {
+        let alloc = *self.nodes.allocator();
+        let part = Part::make(alloc, self.places, self.nodes, self.limit);
+        (part, self.first)
+    }
+
+    /// When the run stops.
+    pub fn stop(&self) -> Time
+        ensures { result ≡ self.now.stop }
+    {
+        self.stop
+    }
+}
+
+/// The place of each node where all stand in the order of their numbers.
+fn places(alloc: Global, nodes: u32) -> Result<Vec<u32>, NoMemory>
+    ensures { IfOk result (λ places. places.items ≡ range_with_len 0 nodes) }
+{
+    let mut places = Vec::with_capacity(alloc, nodes as usize)?;
+    for number in 0..nodes {
+        places.push(number)?;
+    }
+    Ok(places)
+}
