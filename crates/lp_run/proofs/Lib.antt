@@ -1,0 +1,11 @@
+pub mod QueueLaws
+pub mod NewLaws
+pub mod HandedOut
+pub mod Seen
+pub mod Nodes
+pub mod Steps
+pub mod Loop
+pub mod Ready
+pub mod Firing
+pub mod Runs
+pub mod Scheduled

@@ -1,0 +1,190 @@
+-- The loop of a group's firings.
+use Rattle.std.proofs.Common.{◌≡◌, ℕ, ◌+◌, ◌<◌, ◌&&◌, zero, suc, List, [], ◌∷◌, ◌++◌, length, map, refl, sym, ap, ◌∙◌, Some, None, cond, subst, arith, append_assoc, nat_lt, slice_index, length-append}
+use Rattle.std.proofs.lemmas.Grind.{flat_map-append}
+use Rattle.std.proofs.lemmas.List.{append-nil, map-append}
+use Rattle.sim_base.specs.Packet.{Packet}
+use Rattle.layer_words.specs.Counting.{count_up}
+use Rattle.round_core.specs.Bound.{IsBounded, most_firings}
+use Rattle.round_core.specs.Laws.{IsLawful}
+use Rattle.round_core.specs.Lines.{lines_of}
+use Rattle.round_core.specs.Parts.{Part, IsPartSound, part_after, part_firings, part_next}
+use Rattle.round_core.specs.Rounds.{below}
+use Rattle.round_core.specs.World.{Firing, Ready, Rules, next, after, reaction}
+use Rattle.round_core.proofs.PartSound.{part-more, part-sound, part-spends}
+use Rattle.node_step.specs.declared.loads.Load.{Load}
+use Rattle.node_step.specs.Firing.{Text}
+use Rattle.node_step.specs.Node.{PlainNode}
+use Rattle.node_step.specs.Part.{has, place_of}
+use Rattle.node_rules.specs.Firings.{trace_line}
+use Rattle.node_rules.specs.Health.{Shape, health}
+use Rattle.node_rules.specs.Rules.{NoLan, room, rules}
+use Rattle.lp_run.specs.Lp.{PlainLp, HasFired, HasRun, counted, IsWellLp, own_group, part_of, unlogged_part}
+
+abbrev GroupPart : Type 0
+GroupPart = Part PlainNode NoLan (Load Packet) Text
+
+-- what the loop keeps: some firings of the group's part
+pub record Runs (end : ℕ) (old now : PlainLp) : Type 0 where
+  pub steps : ℕ
+  pub fired : HasFired old now (part_firings (rules old.part.limit) (own_group old.part) 0 end steps (part_of old))
+  pub well : IsWellLp now
+
+-- how many firings are left at most
+abbrev pub firings_left : PlainLp → ℕ
+firings_left lp = most_firings (length lp.part.places) (room lp.part.limit) (part_of lp).world
+
+-- the nodes that a part has are told by where they stand, and how many they are
+group_by : List ℕ → ℕ → ℕ → ℕ
+group_by places count n = cond (nat_lt n (length places) && nat_lt (slice_index places n) count) 0 1
+
+pub same_group : (old new : PlainLp) (p : GroupPart) → HasFired old new p → own_group new.part ≡ own_group old.part
+unfolding group_by
+same_group old new p h =
+    ap (λ (x : List ℕ). group_by x (length new.part.nodes)) h.places ∙ ap (group_by old.part.places) h.count
+
+-- the log of a part tells neither what is next nor what it leaves
+next-log : (rules : Rules PlainNode NoLan (Load Packet) Text) (end : ℕ) (p : GroupPart) →
+    next rules (below end) (unlogged_part p).world ≡ next rules (below end) p.world
+unfolding next reaction
+next-log rules end p = refl
+
+after-log : (rules : Rules PlainNode NoLan (Load Packet) Text) (group_of : ℕ → ℕ) (end : ℕ) (p : GroupPart) (r : Ready PlainNode NoLan (Load Packet) Text) →
+    unlogged_part (part_after rules group_of 0 end (unlogged_part p) r) ≡ unlogged_part (part_after rules group_of 0 end p r)
+unfolding part_after after
+after-log rules group_of end p r = refl
+
+log-after : (rules : Rules PlainNode NoLan (Load Packet) Text) (group_of : ℕ → ℕ) (end : ℕ) (p : GroupPart) (r : Ready PlainNode NoLan (Load Packet) Text) →
+    (part_after rules group_of 0 end p r).world.fired ≡ p.world.fired ++ record { key = r.event.key; texts = r.effect.texts } ∷ []
+unfolding part_after after
+log-after rules group_of end p r = refl
+
+lines-append : (xs ys : List (Firing Text)) → map trace_line (lines_of (xs ++ ys)) ≡ map trace_line (lines_of xs) ++ map trace_line (lines_of ys)
+lines-append xs ys = ap (map trace_line) (flat_map-append _ xs ys) ∙ map-append trace_line (lines_of xs) (lines_of ys)
+
+counted-once : (n count : ℕ) → count_up 1 (counted n count) ≡ counted (n + 1) count
+counted-once n count = let same : suc n ≡ n + 1 = omega arith in ap (λ (k : ℕ). counted k count) same
+
+pub runs-first : (end : ℕ) (old : PlainLp) → IsWellLp old → Runs end old old
+unfolding part_firings
+runs-first end old well = record {
+  steps = zero;
+  fired = record { places = refl; count = refl; limit = refl; part = refl; lines = sym (append-nil old.lines); fired = refl };
+  well = well;
+}
+
+module _ (lawful : (limit : ℕ) (shape : Shape) → IsLawful (rules limit) (health shape))
+    (bounded : (limit : ℕ) (shape : Shape) → IsBounded (rules limit) (health shape) shape.nodes (room limit)) where
+  -- what is known of the part that a loop has come to
+  same_rules : (end : ℕ) (old now : PlainLp) (p : GroupPart) → HasFired old now p →
+      (next (rules now.part.limit) (below end) (part_of now).world ≡ next (rules old.part.limit) (below end) p.world)
+  same_rules end old now p h =
+      ap (λ (x : ℕ). next (rules x) (below end) (part_of now).world) h.limit
+      ∙ ap (λ (x : GroupPart). next (rules old.part.limit) (below end) x.world) h.part
+      ∙ next-log (rules old.part.limit) end p
+
+  module _ (end : ℕ) (now new : PlainLp) (r : Ready PlainNode NoLan (Load Packet) Text) (well : IsWellLp now)
+      (is : next (rules now.part.limit) (below end) (part_of now).world ≡ Some r)
+      (fired : HasFired now new (part_after (rules now.part.limit) (own_group now.part) 0 end (part_of now) r)) where
+    unlogged_sound : (p : GroupPart) (limit : ℕ) (group_of : ℕ → ℕ) → IsPartSound (rules limit) (health well.shape) group_of 0 p →
+        IsPartSound (rules limit) (health well.shape) group_of 0 (unlogged_part p)
+    unlogged_sound p limit group_of sound = record {
+      health = record { nodes = sound.health.nodes; lans = sound.health.lans; pending = sound.health.pending };
+      rising = sound.rising;
+      own = sound.own;
+      counted = sound.counted;
+    }
+
+    pub well-more : IsWellLp new
+    well-more =
+        let limit = now.part.limit in
+        let mid = part_after (rules limit) (own_group now.part) 0 end (part_of now) r in
+        let sound = part-sound (rules limit) (health well.shape) (lawful limit well.shape) (own_group now.part) 0 end (part_of now) r well.sound is in
+        let groups = same_group now new mid fired in
+        let P : GroupPart → Type 0 = λ x. IsPartSound (rules limit) (health well.shape) (own_group now.part) 0 x in
+        let Q : (ℕ → ℕ) → Type 0 = λ x. IsPartSound (rules limit) (health well.shape) x 0 (part_of new) in
+        let R : ℕ → Type 0 = λ x. IsPartSound (rules x) (health well.shape) (own_group new.part) 0 (part_of new) in
+        record {
+          shape = well.shape;
+          nodes = well.nodes ∙ ap length (sym fired.places);
+          apart = λ n m h k same. well.apart n m (back n ∙ h) (back m ∙ k) (place n ∙ same ∙ sym (place m));
+          sound = subst R (sym fired.limit) (subst Q (sym groups) (subst P (sym fired.part) (unlogged_sound mid limit (own_group now.part) sound)));
+        }
+      where
+        back : (n : ℕ) → has n now.part ≡ has n new.part
+        back n = ap (λ (x : List ℕ). nat_lt n (length x) && nat_lt (slice_index x n) (length now.part.nodes)) (sym fired.places)
+            ∙ ap (λ (x : ℕ). nat_lt n (length new.part.places) && nat_lt (slice_index new.part.places n) x) (sym fired.count)
+
+        place : (n : ℕ) → place_of n now.part ≡ place_of n new.part
+        place n = ap (λ (x : List ℕ). slice_index x n) (sym fired.places)
+
+    pub less-more : firings_left new < firings_left now
+    less-more =
+        let limit = now.part.limit in
+        let mid = part_after (rules limit) (own_group now.part) 0 end (part_of now) r in
+        let count = length now.part.places in
+        let Q : ℕ → Type 0 = λ x. IsBounded (rules limit) (health well.shape) x (room limit) in
+        let less = part-spends (rules limit) (health well.shape) (lawful limit well.shape) (own_group now.part) 0 end count (room limit) (part_of now) r
+        (subst Q well.nodes (bounded limit well.shape)) well.sound.health is in
+        let same : firings_left new ≡ most_firings count (room limit) mid.world =
+        ap (λ (x : List ℕ). most_firings (length x) (room new.part.limit) (part_of new).world) fired.places
+        ∙ ap (λ (x : ℕ). most_firings count (room x) (part_of new).world) fired.limit
+        ∙ ap (λ (x : GroupPart). most_firings count (room limit) x.world) fired.part in
+        omega arith
+
+  pub runs-more : (end : ℕ) (old now new : PlainLp) (r : Ready PlainNode NoLan (Load Packet) Text) → Runs end old now →
+      next (rules now.part.limit) (below end) (part_of now).world ≡ Some r →
+      HasFired now new (part_after (rules now.part.limit) (own_group now.part) 0 end (part_of now) r) → Runs end old new
+  runs-more end old now new r runs is fired =
+      let limit = old.part.limit in
+      let groups = own_group old.part in
+      let at = part_firings (rules limit) groups 0 end runs.steps (part_of old) in
+      let more = part-more (rules limit) (health runs.well.shape) (lawful limit runs.well.shape) groups 0 end runs.steps (part_of old) in
+      let ready : next (rules limit) (below end) at.world ≡ Some r = sym (same_rules end old now at runs.fired) ∙ is in
+      let reached : part_firings (rules limit) groups 0 end more.0 (part_of old) ≡ part_after (rules limit) groups 0 end at r =
+      more.1 ∙ ap (part_next (rules limit) groups 0 end at) ready in
+      let same : part_after (rules now.part.limit) (own_group now.part) 0 end (part_of now) r ≡ part_after (rules limit) groups 0 end (unlogged_part at) r =
+      ap (λ (x : ℕ). part_after (rules x) (own_group now.part) 0 end (part_of now) r) runs.fired.limit
+      ∙ ap (λ (x : ℕ → ℕ). part_after (rules limit) x 0 end (part_of now) r) (same_group old now at runs.fired)
+      ∙ ap (λ (x : GroupPart). part_after (rules limit) groups 0 end x r) runs.fired.part in
+      let here : HasFired now new (part_after (rules limit) groups 0 end (unlogged_part at) r) =
+      subst (λ (x : GroupPart). HasFired now new x) same fired in
+      record {
+        steps = more.0;
+        fired = subst (λ (x : GroupPart). HasFired old new x) (sym reached) (joined limit groups at runs.fired here);
+        well = well-more end now new r runs.well is fired;
+      }
+    where
+      joined : (limit : ℕ) (groups : ℕ → ℕ) (at : GroupPart) → HasFired old now at →
+          HasFired now new (part_after (rules limit) groups 0 end (unlogged_part at) r) →
+          HasFired old new (part_after (rules limit) groups 0 end at r)
+      joined limit groups at first last =
+          let one : Firing Text = record { key = r.event.key; texts = r.effect.texts } in
+          record {
+            places = last.places ∙ first.places;
+            count = last.count ∙ first.count;
+            limit = last.limit ∙ first.limit;
+            part = last.part ∙ after-log (rules limit) groups end at r;
+            lines = last.lines
+                ∙ ap (λ x. now.lines ++ map trace_line (lines_of x)) (log-after (rules limit) groups end (unlogged_part at) r)
+                ∙ ap (λ x. x ++ map trace_line (lines_of (one ∷ []))) first.lines
+                ∙ append_assoc old.lines (map trace_line (lines_of at.world.fired)) (map trace_line (lines_of (one ∷ [])))
+                ∙ ap (λ x. old.lines ++ x) (sym (lines-append at.world.fired (one ∷ [])))
+                ∙ ap (λ x. old.lines ++ map trace_line (lines_of x)) (sym (log-after (rules limit) groups end at r));
+            fired = last.fired
+                ∙ ap (λ x. counted (length x) now.fired) (log-after (rules limit) groups end (unlogged_part at) r)
+                ∙ ap (count_up 1) first.fired ∙ counted-once (length at.world.fired) old.fired
+                ∙ ap (λ x. counted x old.fired) (sym (length-append at.world.fired (one ∷ [])))
+                ∙ ap (λ x. counted (length x) old.fired) (sym (log-after (rules limit) groups end at r));
+          }
+
+  -- the end of the loop
+  pub runs-last : (end : ℕ) (old now : PlainLp) → Runs end old now → next (rules now.part.limit) (below end) (part_of now).world ≡ None → HasRun end old now
+  runs-last end old now runs rests = record {
+    left = part_firings (rules old.part.limit) (own_group old.part) 0 end runs.steps (part_of old);
+    runs = record {
+      steps = runs.steps;
+      reached = refl;
+      rests = sym (same_rules end old now _ runs.fired) ∙ rests;
+    };
+    fired = runs.fired;
+  }
