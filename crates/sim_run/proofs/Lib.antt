@@ -2,3 +2,10 @@ pub mod Outputs
 pub mod NewFiles
 pub mod WholeInput
 pub mod Joined
+pub mod CaptureLaws
+pub mod PieceLaws
+pub mod SavedLaws
+pub mod NameLaws
+pub mod PlaceLaws
+pub mod RunFiles
+pub mod CreateLaws

@@ -1,5 +1,5 @@
 -- What one file has after whole writes, where the store tells it.
-use Rattle.std.specs.Prelude.{◌≡◌, ℕ, List, [], ◌∷◌, ◌++◌, length, take, Option, Some, None}
+use Rattle.std.specs.Prelude.{◌≡◌, ℕ, ◌<◌, List, [], ◌∷◌, ◌++◌, length, take, Option, Some, None}
 use Rattle.outside.specs.declared.store.File.{File}
 use Rattle.outside.specs.Store.{append_to}
 
@@ -17,3 +17,8 @@ abbrev pub HasNewFile : Option (List File) → Option (List File) → ℕ → Li
 HasNewFile None after number name bytes = Unit {0}
 HasNewFile (Some files) after number name bytes =
     (number ≡ length files) × (after ≡ Some (files ++ record { name = name; bytes = bytes } ∷ []))
+
+-- these files were added, the first of which has this number
+abbrev pub HasNewFiles : Option (List File) → Option (List File) → ℕ → List File → Type 0
+HasNewFiles None after first files = Unit {0}
+HasNewFiles (Some before) after first files = (0 < length files → first ≡ length before) × (after ≡ Some (before ++ files))

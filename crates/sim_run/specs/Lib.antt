@@ -1,4 +1,8 @@
 pub mod Files
+pub mod Captures
+pub mod Pieces
+pub mod Places
+pub mod Grown
 pub mod Text
 pub mod Input
 pub mod Output

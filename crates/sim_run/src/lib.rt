@@ -1,16 +1,20 @@
 //! A run of the program: from the words and bytes that come in to the files and text that go out.
 #![tactic(auto)]
 
+mod captures;
 mod command;
+mod create;
 mod files;
 mod input;
 mod output;
+mod pieces;
 mod program;
 mod simulate;
 mod sizes;
 mod status;
 mod stop;
 mod summary;
+mod trace_files;
 
 pub use command::{Command, WordCode, WordFault, read_command};
 pub use program::run_program;

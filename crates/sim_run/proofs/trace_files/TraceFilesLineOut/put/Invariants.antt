@@ -1,0 +1,13 @@
+use Rattle.std.proofs.Common.{◌≡◌, true, map, take}
+use Rattle.trace_merge.specs.Lines.{plain_line}
+use Rattle.sim_run.specs.Pieces.{saved_pieces}
+use Rattle.sim_run.proofs.trace_files.TraceFilesLineOut.put.Given as goal
+
+abbrev pub invariant-loop-line : goal.invariant-loop-line
+invariant-loop-line g l = record {
+  failed : l.self.failed ≡ true;
+  store : l.self.store ≡ l.fn.self.store;
+  first : l.self.first ≡ l.fn.self.first;
+  captures : l.self.pieces.captures ≡ l.fn.self.pieces.captures;
+  pieces : l.self.pieces.pieces ≡ saved_pieces l.fn.self.pieces.captures (map (plain_line g.P.Pkt.plain) (take l.line-index l.lines));
+}
