@@ -7,7 +7,7 @@ use Rattle.layer_words.specs.Counting.{count_up}
 use Rattle.round_core.specs.Bound.{IsBounded, most_firings}
 use Rattle.round_core.specs.Laws.{IsLawful}
 use Rattle.round_core.specs.Lines.{lines_of}
-use Rattle.round_core.specs.Parts.{Part, IsPartSound, part_after, part_firings, part_next}
+use Rattle.round_core.specs.Parts.{Part, PartRuns, IsPartSound, part_after, part_firings, part_next}
 use Rattle.round_core.specs.Rounds.{below}
 use Rattle.round_core.specs.World.{Firing, Ready, Rules, next, after, reaction}
 use Rattle.round_core.proofs.PartSound.{part-more, part-sound, part-spends}
@@ -18,7 +18,7 @@ use Rattle.node_step.specs.Part.{has, place_of}
 use Rattle.node_rules.specs.Firings.{trace_line}
 use Rattle.node_rules.specs.Health.{Shape, health}
 use Rattle.node_rules.specs.Rules.{NoLan, room, rules}
-use Rattle.lp_run.specs.Lp.{PlainLp, HasFired, HasRun, counted, IsWellLp, own_group, part_of, unlogged_part}
+use Rattle.lp_run.specs.Lp.{PlainLp, HasFired, counted, IsWellLp, own_group, part_of, unlogged_part}
 
 abbrev GroupPart : Type 0
 GroupPart = Part PlainNode NoLan (Load Packet) Text
@@ -177,14 +177,12 @@ module _ (lawful : (limit : ℕ) (shape : Shape) → IsLawful (rules limit) (hea
                 ∙ ap (λ x. counted (length x) old.fired) (sym (log-after (rules limit) groups end at r));
           }
 
-  -- the end of the loop
-  pub runs-last : (end : ℕ) (old now : PlainLp) → Runs end old now → next (rules now.part.limit) (below end) (part_of now).world ≡ None → HasRun end old now
+  -- where nothing is to fire, the firings so far are a run of the part
+  pub runs-last : (end : ℕ) (old now : PlainLp) → (runs : Runs end old now) → next (rules now.part.limit) (below end) (part_of now).world ≡ None →
+      PartRuns (rules old.part.limit) (own_group old.part) 0 end (part_of old)
+      (part_firings (rules old.part.limit) (own_group old.part) 0 end runs.steps (part_of old))
   runs-last end old now runs rests = record {
-    left = part_firings (rules old.part.limit) (own_group old.part) 0 end runs.steps (part_of old);
-    runs = record {
-      steps = runs.steps;
-      reached = refl;
-      rests = sym (same_rules end old now _ runs.fired) ∙ rests;
-    };
-    fired = runs.fired;
+    steps = runs.steps;
+    reached = refl;
+    rests = sym (same_rules end old now _ runs.fired) ∙ rests;
   }

@@ -79,10 +79,11 @@ pub record HasFired (old new : PlainLp) (p : Part PlainNode NoLan (Load Packet) 
   pub lines : new.lines ≡ old.lines ++ map trace_line (lines_of p.world.fired)
   pub fired : new.fired ≡ counted (length p.world.fired) old.fired
 
--- a group has fired its own events below an end: a run of its part of the rounds that has come to rest there
+-- a group has fired all its own events below an end: a run of its part of the rounds that leaves none there
 pub record HasRun (end : ℕ) (old new : PlainLp) : Type 0 where
   pub left : Part PlainNode NoLan (Load Packet) Text
   pub runs : PartRuns (rules old.part.limit) (own_group old.part) 0 end (part_of old) left
+  pub none : first (below end) left.world.pending ≡ None
   pub fired : HasFired old new left
 
 -- a group after one firing of its least event below an end; where there is none, it is as it was
