@@ -1,15 +1,19 @@
 -- Applications with their numbers, and those that a node installs.
-use Rattle.std.proofs.Common.{◌≡◌, ℕ, nat_eq, zero, suc, ◌+◌, ◌<◌, ◌≤◌, List, [], ◌∷◌, ◌++◌, length, get_or, take, drop, subst, Option, Some, None, refl, sym, ap, ◌∙◌, arith, append_assoc}
+use Rattle.std.proofs.Common.{◌≡◌, ℕ, nat_eq, zero, suc, ◌+◌, ◌<◌, ◌≤◌, ◌^◌, List, [], ◌∷◌, ◌++◌, length, get_or, take, drop, subst, Option, Some, None, refl, sym, ap, ◌∙◌, arith, append_assoc}
 use Rattle.std.specs.Prelude.{All, IfSome}
+use Rattle.std.specs.List.{AllByRecursion}
 use Rattle.std.proofs.lemmas.List.{at_drop_more}
-use Rattle.std.proofs.lemmas.List.Elements.{All-nil, All-tail, All-cons, All-filter}
+use Rattle.std.proofs.lemmas.List.Elements.{All-nil, All-head, All-tail, All-cons, All-filter, recursion_from_All}
 use Rattle.traffic_apps.specs.declared.kind.AppKind.{AppKind}
+use Rattle.traffic_apps.specs.App.{IsKind}
 use Rattle.scenario_form.specs.declared.scenario.App.{App}
+use Rattle.scenario_form.specs.declared.scenario.Kind.{Kind}
+use Rattle.scenario_form.specs.declared.scenario.Kind.TheVariants.{UdpSend, UdpEchoClient, UdpSink, UdpEchoServer, TcpSink, OnOff, Ping, TcpBulk}
 use Rattle.scenario_form.specs.Limits.{IsApp, IsFromTo}
 use Rattle.sim_world.specs.declared.apps.Listed.{Listed}
 use Rattle.sim_world.specs.declared.apps.Installed.{Installed}
 use Rattle.sim_world.specs.Grouping.{grouped, at_node, with_item}
-use Rattle.sim_world.specs.Apps.{IsListed, listed_from, node_of, kind_of, ports_taken, installed_as, installed_from}
+use Rattle.sim_world.specs.Apps.{IsWithin, IsListed, listed_from, node_of, kind_of, ports_taken, own_port, installed_as, installed_from}
 use Rattle.sim_world.proofs.GroupLaws.{next_pushed, few_grouped, all_grouped}
 
 pub length-listed_from : (n : ℕ) (apps : List App) → length (listed_from n apps) ≡ length apps
@@ -87,3 +91,52 @@ install_next taken next i listed d old new all lt so_far added counted =
 pub length-installed_as : (taken : ℕ) (l : Listed) (o : Option AppKind) → length (installed_as taken l o []) ≤ 1
 length-installed_as taken l None = omega arith
 length-installed_as taken l (Some kind) = omega arith
+
+-- ---- what is installed
+
+fine_kind : (k : Kind) (a : App) → IsWithin a → IfSome (kind_of k a) IsKind
+fine_kind UdpSend a is = (is.size, is.count, is.some_interval, is.interval)
+fine_kind UdpSink a is = tt
+fine_kind UdpEchoClient a is = (is.size, is.count, is.some_interval, is.interval)
+fine_kind UdpEchoServer a is = tt
+fine_kind Ping a is = (is.size, is.count, is.some_interval, is.interval)
+fine_kind TcpSink a is = tt
+fine_kind OnOff a is = tt
+fine_kind TcpBulk a is = tt
+
+one_kind : (taken : ℕ) (l : Listed) (o : Option AppKind) (more : List Installed) → IfSome o IsKind → All (λ i. IsKind i.kind) more → All (λ i. IsKind i.kind) (installed_as taken l o more)
+one_kind taken l None more is are = are
+one_kind taken l (Some kind) more is are =
+    All-cons (λ (i : Installed). IsKind i.kind) (record { number = l.number; kind = kind; port = own_port taken l.app.kind l.app; start = l.app.start_ns }) more is are
+
+kinds_from : (taken : ℕ) (ls : List Listed) → All IsListed ls → All (λ i. IsKind i.kind) (installed_from taken ls)
+kinds_from taken [] are = All-nil (λ (i : Installed). IsKind i.kind)
+kinds_from taken (l ∷ ls) are =
+    one_kind taken l (kind_of l.app.kind l.app) (installed_from (taken + ports_taken l.app.kind) ls) (fine_kind l.app.kind l.app (All-head IsListed l ls are))
+    (kinds_from (taken + ports_taken l.app.kind) ls (All-tail IsListed l ls are))
+
+-- the applications of a node send what fits
+pub kinds_in : (nodes n : ℕ) (apps : List App) → All (IsApp nodes) apps → All (λ i. IsKind i.kind) (installed_from 0 (at_node node_of n (listed_from 0 apps)))
+kinds_in nodes n apps are = kinds_from 0 (at_node node_of n (listed_from 0 apps)) (all_listed_at nodes n apps are)
+
+one_start : (taken : ℕ) (l : Listed) (o : Option AppKind) (more : List Installed) → l.app.start_ns.0 ≤ 10 ^ 12 → AllByRecursion (λ i. i.start.0 ≤ 10 ^ 12) more
+    → AllByRecursion (λ i. i.start.0 ≤ 10 ^ 12) (installed_as taken l o more)
+one_start taken l None more is are = are
+one_start taken l (Some kind) more is are = (is, are)
+
+starts_from : (taken : ℕ) (ls : List Listed) → AllByRecursion (λ l. l.app.start_ns.0 ≤ 10 ^ 12) ls → AllByRecursion (λ i. i.start.0 ≤ 10 ^ 12) (installed_from taken ls)
+starts_from taken [] are = tt
+starts_from taken (l ∷ ls) are =
+    one_start taken l (kind_of l.app.kind l.app) (installed_from (taken + ports_taken l.app.kind) ls) are.0 (starts_from (taken + ports_taken l.app.kind) ls are.1)
+
+early : (nodes n : ℕ) (apps : List App) → All (IsApp nodes) apps → All (λ l. l.app.start_ns.0 ≤ 10 ^ 12) (listed_from n apps)
+early nodes n [] are = All-nil (λ (l : Listed). l.app.start_ns.0 ≤ 10 ^ 12)
+early nodes n (a ∷ apps) are =
+    All-cons (λ (l : Listed). l.app.start_ns.0 ≤ 10 ^ 12) (record { number = n; app = a }) (listed_from (n + 1) apps) ((All-head (IsApp nodes) a apps are).start_ns.to)
+    (early nodes (n + 1) apps (All-tail (IsApp nodes) a apps are))
+
+-- they begin at a time of a run
+pub starts_in : (nodes n : ℕ) (apps : List App) → All (IsApp nodes) apps → AllByRecursion (λ i. i.start.0 ≤ 10 ^ 12) (installed_from 0 (at_node node_of n (listed_from 0 apps)))
+starts_in nodes n apps are =
+    starts_from 0 (at_node node_of n (listed_from 0 apps)) (recursion_from_All (λ (l : Listed). l.app.start_ns.0 ≤ 10 ^ 12) (at_node node_of n (listed_from 0 apps))
+    (All-filter (λ l. nat_eq l.app.node.0 n) (λ (l : Listed). l.app.start_ns.0 ≤ 10 ^ 12) (listed_from 0 apps) (early nodes 0 apps are)))

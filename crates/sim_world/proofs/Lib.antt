@@ -5,3 +5,6 @@ pub mod AppLaws
 pub mod FitLaws
 pub mod RangeLaws
 pub mod PlanLaws
+pub mod WiringLaws
+pub mod TickLaws
+pub mod WorldLaws

@@ -6,3 +6,4 @@ pub mod Apps
 pub mod Ticks
 pub mod World
 pub mod Plan
+pub mod Opening

@@ -39,13 +39,15 @@ impl<P: Pkt> Model for World<P> {
 }
 
 impl<P: Pkt> World<P> {
+    ghost use Rattle.sim_world.specs.Opening.{OpensRuns};
     ghost use Rattle.sim_world.specs.World.{world_of};
 
     /// The world of a scenario that is built.
     pub fn make(alloc: Global, scenario: &Scenario) -> Result<World<P>, NoMemory>
         requires limits { IsWithinLimits scenario.now }
         requires built { not_built scenario.now ≡ false }
-        ensures { IfOk result (λ world. world ≡ world_of scenario.now) }
+        ensures world { IfOk result (λ world. world ≡ world_of scenario.now) }
+        ensures opens { IfOk result OpensRuns }
     {
         let plan = Plan::of(alloc, scenario)?;
         let draft = Draft::of(alloc, scenario.nodes, &plan)?;
