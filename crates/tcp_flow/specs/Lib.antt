@@ -1,0 +1,4 @@
+pub mod Conn
+pub mod Seen
+pub mod Small
+pub mod Stray
