@@ -1,3 +1,4 @@
 pub mod Undone
 pub mod Made
 pub mod Answered
+pub mod Crosses
