@@ -17,7 +17,7 @@ use Rattle.node_step.specs.Iface.{PlainIface}
 use Rattle.node_step.specs.LocalApp.{PlainLocalApp}
 use Rattle.node_step.specs.Node.{PlainNode}
 use Rattle.node_rules.specs.Health.{Link, IsFor, IsWellEvent, IsWellIface, IsWellNode}
-use Rattle.node_rules.specs.Worlds.{AreWellNodes, event_of, link_of, node_at, node_or, shape_of}
+use Rattle.node_rules.specs.Worlds.{AreFirstEvents, AreWellNodes, event_of, link_of, node_at, node_or, shape_of}
 use Rattle.node_rules.proofs.OpeningLaws.{opens}
 use Rattle.sim_world.specs.declared.apps.Installed.{Installed}
 use Rattle.sim_world.specs.declared.ends.End.{End}
@@ -190,11 +190,11 @@ counted_tick s e is =
     let node : node_at (nodes_of s) n ≡ node_in s n = node_is s n is.below_n in
     subst (λ m. e.key.count < (node_at (nodes_of s) m).scheduled) (sym by) (subst (λ (x : PlainNode). e.key.count < x.scheduled) (sym node) tick.high_count)
 
-pub events_well : (s : Scenario) → IsWithinLimits s → AllByRecursion (λ e. IsWellEvent (shape_of (nodes_of s)) (event_of e)) (first_of s)
+events_well : (s : Scenario) → IsWithinLimits s → AllByRecursion (λ e. IsWellEvent (shape_of (nodes_of s)) (event_of e)) (first_of s)
 events_well s limits =
     all_weaker (IsFirstTick 0 s.nodes (λ n. length (apps_in s n)) (λ n. tick_count (apps_in s n))) (λ e. IsWellEvent (shape_of (nodes_of s)) (event_of e)) (well_tick s) (first_of s) (ticks s limits)
 
-pub events_counted : (s : Scenario) → IsWithinLimits s → AllByRecursion (λ e. e.key.count < (node_at (nodes_of s) e.key.by.0).scheduled) (first_of s)
+events_counted : (s : Scenario) → IsWithinLimits s → AllByRecursion (λ e. e.key.count < (node_at (nodes_of s) e.key.by.0).scheduled) (first_of s)
 events_counted s limits =
     all_weaker (IsFirstTick 0 s.nodes (λ n. length (apps_in s n)) (λ n. tick_count (apps_in s n))) (λ e. e.key.count < (node_at (nodes_of s) e.key.by.0).scheduled) (counted_tick s) (first_of s) (ticks s limits)
 
@@ -203,6 +203,13 @@ own_keys s limits = own_first_ticks (apps_in s) 0 s.nodes s.nodes (omega arith) 
 
 -- ---- the whole
 
+first_events : (s : Scenario) → IsWithinLimits s → AreFirstEvents (nodes_of s) (first_of s)
+first_events s limits = record {
+  well = events_well s limits;
+  own_keys = own_keys s limits;
+  counted = events_counted s limits;
+}
+
 pub opens_runs : (s : Scenario) → IsWithinLimits s → OpensRuns (world_of s)
 unfolding world_of
-opens_runs s limits = opens s.events_per_node (nodes_of s) (first_of s) (nodes_well s limits) (events_well s limits) (own_keys s limits) (events_counted s limits)
+opens_runs s limits = opens s.events_per_node (nodes_of s) (first_of s) (first_events s limits) (nodes_well s limits)
