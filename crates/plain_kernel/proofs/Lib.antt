@@ -1,0 +1,4 @@
+pub mod Whole
+pub mod Endings
+pub mod Starting
+pub mod Times
