@@ -13,7 +13,8 @@ use Rattle.node_step.specs.declared.loads.Event.{Event as NodeEvent}
 use Rattle.node_step.specs.declared.loads.Load.{Load}
 use Rattle.node_step.specs.declared.stop.FireStop.{FireStop}
 use Rattle.node_step.specs.declared.stop.FireStop.TheVariants.{NoMemory, Limit}
-use Rattle.node_step.specs.Loads.{plain_event, plain_line}
+use Rattle.pkt_face.specs.Seen.{plain_line}
+use Rattle.node_step.specs.Loads.{plain_event}
 use Rattle.node_step.specs.Part.{CanFire, Fired, PlainPart, fire}
 use Rattle.node_step.specs.React.{Refuses}
 use Rattle.node_rules.specs.Worlds.{event_of}

@@ -11,7 +11,8 @@ use Rattle.round_core.specs.Parts.{is_for}
 use Rattle.round_core.specs.World.{Event}
 use Rattle.node_step.specs.declared.loads.Event.{Event as NodeEvent}
 use Rattle.node_step.specs.declared.loads.Load.{Load}
-use Rattle.node_step.specs.Loads.{plain_event, plain_line, plain_load}
+use Rattle.pkt_face.specs.Seen.{plain_line}
+use Rattle.node_step.specs.Loads.{plain_event, plain_load}
 use Rattle.node_step.specs.Part.{PlainPart, has}
 use Rattle.node_rules.specs.Worlds.{event_of}
 use Rattle.lp_run.specs.Lp.{PlainLp, own_group}

@@ -2,7 +2,8 @@
 
 ghost use Rattle.std.specs.Prelude.{◌≡◌, ◌≤◌, ◌^◌, [], IfOk, IfErr, OnErr, OnOk, map};
 ghost use Rattle.sim_base.specs.KeyOrder.{insert_by};
-ghost use Rattle.node_step.specs.Loads.{plain_event, plain_line};
+ghost use Rattle.pkt_face.specs.Seen.{plain_line};
+ghost use Rattle.node_step.specs.Loads.{plain_event};
 ghost use Rattle.node_rules.specs.Worlds.{event_of};
 ghost use Rattle.lp_run.specs.Lp.{HasRun, HasStopped, IsRefused, IsStep, IsWellLp, made};
 ghost use Rattle.lp_run.specs.Pending.{AreNew, HasNoKey, first_key};
@@ -29,7 +30,8 @@ pub struct Lp<P: Pkt> {
 impl<P: Pkt> Model for Lp<P> {
     ghost use Rattle.std.specs.Prelude.{◌≡◌, [], map};
     ghost use Rattle.node_rules.specs.Worlds.{event_of};
-    ghost use Rattle.node_step.specs.Loads.{plain_event, plain_line, plain_load};
+    ghost use Rattle.pkt_face.specs.Seen.{plain_line};
+ghost use Rattle.node_step.specs.Loads.{plain_event, plain_load};
     ghost use Rattle.lp_run.specs.Lp.{PlainLp};
     ghost use Rattle.lp_run.specs.Pending.{pending_event};
 

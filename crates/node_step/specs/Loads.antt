@@ -3,7 +3,6 @@ use Rattle.sim_base.specs.Packet.{Packet}
 use Rattle.node_step.specs.declared.loads.Load.{Load}
 use Rattle.node_step.specs.declared.loads.Load.TheVariants.{Arrive, Sent, Tick}
 use Rattle.node_step.specs.declared.loads.Event.{Event}
-use Rattle.pkt_face.specs.declared.line.Line.{Line}
 
 abbrev pub plain_load : {P : Type 0} → (P → Packet) → Load P → Load Packet
 plain_load plain (Arrive iface packet) = Arrive iface (plain packet)
@@ -12,6 +11,3 @@ plain_load plain (Tick app) = Tick app
 
 abbrev pub plain_event : {P : Type 0} → (P → Packet) → Event P → Event Packet
 plain_event plain e = record { key = e.key; load = plain_load plain e.load }
-
-abbrev pub plain_line : {P : Type 0} → (P → Packet) → Line P → Line Packet
-plain_line plain l = record { key = l.key; index = l.index; node = l.node; iface = l.iface; sign = l.sign; packet = plain l.packet }

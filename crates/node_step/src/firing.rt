@@ -3,7 +3,8 @@
 ghost use Rattle.std.specs.Prelude.{◌≡◌, ◌+◌, ◌≤◌, ◌<◌, ◌^◌, [], OnOk, OnErr, fold, map, length};
 ghost use Rattle.layer_words.specs.Acts.{Appends};
 ghost use Rattle.p2p_dev.specs.Seen.{plain_act};
-ghost use Rattle.node_step.specs.Loads.{plain_load, plain_event, plain_line};
+ghost use Rattle.pkt_face.specs.Seen.{plain_line};
+ghost use Rattle.node_step.specs.Loads.{plain_load, plain_event};
 
 use crate::iface::Ends;
 use crate::loads::{Effects, Event, Load};
@@ -26,7 +27,8 @@ pub struct Firing<P: Pkt> {
 impl<P: Pkt> Model for Firing<P> {
     ghost use Rattle.std.specs.Prelude.{◌≡◌, ◌+◌, ◌≤◌, ◌^◌, map};
     ghost use Rattle.node_step.specs.Firing.{PlainFiring, request_of, text_of, scheduled, numbered};
-    ghost use Rattle.node_step.specs.Loads.{plain_event, plain_line};
+    ghost use Rattle.pkt_face.specs.Seen.{plain_line};
+ghost use Rattle.node_step.specs.Loads.{plain_event};
 
     ghost Value = { PlainFiring };
 

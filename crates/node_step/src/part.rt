@@ -2,7 +2,8 @@
 
 ghost use Rattle.std.specs.Prelude.{◌≡◌, ◌≤◌, ◌^◌, ◌↔◌, IsTrue, IfOk, OnOk, OnErr, IfErr, IsSomeAnd};
 ghost use Rattle.layer_words.specs.Acts.{Appends};
-ghost use Rattle.node_step.specs.Loads.{plain_event, plain_line};
+ghost use Rattle.pkt_face.specs.Seen.{plain_line};
+ghost use Rattle.node_step.specs.Loads.{plain_event};
 
 use crate::firing::Firing;
 use crate::loads::{Effects, Event};

@@ -18,7 +18,8 @@ use Rattle.round_core.proofs.Window.{below-time}
 use Rattle.node_step.specs.Firing.{Text}
 use Rattle.node_rules.specs.Firings.{trace_line}
 use Rattle.node_rules.specs.Rules.{room, rules}
-use Rattle.trace_merge.specs.Lines.{IsInTime, plain_line}
+use Rattle.pkt_face.specs.Seen.{plain_line}
+use Rattle.trace_merge.specs.Lines.{IsInTime}
 use Rattle.sim_world.specs.World.{PlainWorld}
 use Rattle.plain_kernel.specs.Run.{ending, run_lines, start}
 

@@ -1,7 +1,7 @@
 //! How a run of a whole world ends.
 
 ghost use Rattle.std.specs.Prelude.{◌≡◌, ◌≤◌, ◌^◌, IfOk, map};
-ghost use Rattle.node_step.specs.Loads.{plain_line};
+ghost use Rattle.pkt_face.specs.Seen.{plain_line};
 ghost use Rattle.sim_world.specs.Opening.{OpensRuns};
 ghost use Rattle.plain_kernel.specs.Run.{run_lines};
 ghost use Rattle.plain_kernel.specs.Stop.{IsOutcome};

@@ -7,7 +7,7 @@ use Rattle.std.specs.List.{AllByRecursion}
 use Rattle.sim_base.specs.Packet.{Packet}
 use Rattle.pkt_face.specs.declared.line.Line.{Line}
 use Rattle.outside.specs.declared.store.File.{File}
-use Rattle.trace_merge.specs.Lines.{plain_line}
+use Rattle.pkt_face.specs.Seen.{plain_line}
 use Rattle.pcap_form.specs.Capture.{captured_packet}
 use Rattle.sim_run.specs.declared.captures.Capture.{Capture}
 use Rattle.sim_run.specs.Captures.{is_of, is_save, saved_packet, saved}

@@ -5,7 +5,7 @@ use Rattle.sim_base.specs.Packet.{Packet}
 use Rattle.pkt_face.specs.declared.line.Line.{Line}
 use Rattle.trace_merge.specs.declared.kept.KeptLine.{KeptLine}
 use Rattle.trace_merge.specs.Kept.{kept_of, AreKept}
-use Rattle.trace_merge.specs.Lines.{plain_line}
+use Rattle.pkt_face.specs.Seen.{plain_line}
 
 -- what is kept of lines that come behind others, the first of which are kept now
 kept-append : (start : List KeptLine) (before first rest : List (Line Packet)) (was : List KeptLine) → AreKept false start was before

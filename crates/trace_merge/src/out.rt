@@ -5,7 +5,8 @@ ghost use Rattle.std.specs.List.{All};
 ghost use Rattle.outside.specs.Causes.{HasCause};
 ghost use Rattle.sim_base.specs.Packet.{Packet};
 ghost use Rattle.pkt_face.specs.declared.line.Line.{Line as TraceLine};
-ghost use Rattle.trace_merge.specs.Lines.{IsInTime, plain_line};
+ghost use Rattle.pkt_face.specs.Seen.{plain_line};
+ghost use Rattle.trace_merge.specs.Lines.{IsInTime};
 
 use outside::StoreStop;
 use pkt_face::{Line, Pkt};

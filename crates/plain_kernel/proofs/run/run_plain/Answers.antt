@@ -2,7 +2,7 @@ use Rattle.std.proofs.Common.{◌∙◌, ap, map, refl, subst, List, []}
 use Rattle.std.proofs.lemmas.List.{append-nil}
 use Rattle.sim_base.specs.Packet.{Packet}
 use Rattle.pkt_face.specs.declared.line.Line.{Line}
-use Rattle.trace_merge.specs.Lines.{plain_line}
+use Rattle.pkt_face.specs.Seen.{plain_line}
 use Rattle.plain_kernel.specs.declared.outcome.Outcome.{Outcome}
 use Rattle.plain_kernel.specs.Run.{run_lines}
 use Rattle.plain_kernel.specs.Stop.{IsOutcome}

@@ -3,7 +3,8 @@ use Rattle.sim_base.specs.declared.key.Key.{Key}
 use Rattle.round_core.specs.Rounds.{below}
 use Rattle.round_core.specs.World.{first}
 use Rattle.node_step.specs.declared.loads.Load.{Load}
-use Rattle.node_step.specs.Loads.{plain_line, plain_load}
+use Rattle.pkt_face.specs.Seen.{plain_line}
+use Rattle.node_step.specs.Loads.{plain_load}
 use Rattle.lp_run.specs.Lp.{IsRefused, IsStep, IsWellLp, PlainLp, stop_at}
 use Rattle.lp_run.specs.declared.stop.LpStop.{LpStop}
 use Rattle.lp_run.proofs.Firing.{are-new, can-fire, refused, stepped}

@@ -1,5 +1,5 @@
 use Rattle.std.proofs.Common.{refl, arith}
-use Rattle.node_step.specs.Loads.{plain_line}
+use Rattle.pkt_face.specs.Seen.{plain_line}
 use Rattle.node_step.proofs.Numbering.{numbered-more}
 use Rattle.node_step.proofs.firing.Firing.write.Goals as goal
 

@@ -1,6 +1,7 @@
 use Rattle.std.proofs.Common.{rules}
 use Rattle.layer_words.specs.Acts.{Appends}
-use Rattle.node_step.specs.Loads.{plain_event, plain_line}
+use Rattle.pkt_face.specs.Seen.{plain_line}
+use Rattle.node_step.specs.Loads.{plain_event}
 use Rattle.node_step.specs.Node.{Progress}
 use Rattle.node_step.specs.Part.{PlainPart, fire}
 use Rattle.node_step.specs.React.{Refuses}

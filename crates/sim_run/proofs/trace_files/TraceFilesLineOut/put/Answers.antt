@@ -1,6 +1,6 @@
 use Rattle.std.proofs.Common.{◌≡◌, ◌∙◌, ◌<◌, ◌≤◌, List, Some, None, length, map, ap, sym, subst, arith}
 use Rattle.std.proofs.lemmas.List.{take_all}
-use Rattle.trace_merge.specs.Lines.{plain_line}
+use Rattle.pkt_face.specs.Seen.{plain_line}
 use Rattle.sim_run.specs.declared.captures.Capture.{Capture}
 use Rattle.sim_run.specs.Pieces.{AreApart, HasGrownByFronts, HasGrownFrom, place_for, saved_pieces}
 use Rattle.sim_run.proofs.PieceLaws.{goes_on}

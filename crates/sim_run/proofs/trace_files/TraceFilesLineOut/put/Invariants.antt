@@ -1,5 +1,5 @@
 use Rattle.std.proofs.Common.{◌≡◌, true, map, take}
-use Rattle.trace_merge.specs.Lines.{plain_line}
+use Rattle.pkt_face.specs.Seen.{plain_line}
 use Rattle.sim_run.specs.Pieces.{saved_pieces}
 use Rattle.sim_run.proofs.trace_files.TraceFilesLineOut.put.Given as goal
 

@@ -1,5 +1,5 @@
 use Rattle.std.proofs.Common.{◌≡◌, ◌++◌, true, map, take}
-use Rattle.trace_merge.specs.Lines.{plain_line}
+use Rattle.pkt_face.specs.Seen.{plain_line}
 use Rattle.trace_merge.specs.Kept.{kept_of}
 use Rattle.trace_merge.proofs.kept.KeptLinesLineOut.put.Given as goal
 
