@@ -44,6 +44,10 @@ closed-keyless a (γ ∷ gs) (x ∷ xs) b o = (((λ y. (part_keyless u8 u8-send 
 pub loan-send : IsSend Loan.the_row
 loan-send = owning_send Loan.the_type tt (λ l. closed-keyless l.life (lib.ListN.drop l.at l.names) l.items (block_of l.base) (count_of l.base + l.at)) (λ k x w. tt)
 
+-- a `&` to a loan shows nothing that names a thread
+pub loan-sync : IsSync Loan.the_row
+loan-sync = record { shared = λ l b o κ q. part_keyless Loan.the_row loan-send q l b o }
+
 pub shown-send : IsSend Shown.the_row
 shown-send = owning_send Shown.the_type tt (λ s. ((array_sync u8 0 u8-sync).shared s.items (block_of s.base) (count_of s.base + s.at) (s.life ∷ [])).1) (λ k x w. tt)
 

@@ -15,11 +15,11 @@ use std::sync::Arc;
 /// Places of a block that no other range has: those from `from` on and below `to`.
 #[derive(Drop)]
 pub struct FreeRange {
-    memory: Arc<Memory, Global>,
-    base: *mut u8,
-    from: u32,
-    to: u32,
-    loan: Loan,
+    pub(crate) memory: Arc<Memory, Global>,
+    pub(crate) base: *mut u8,
+    pub(crate) from: u32,
+    pub(crate) to: u32,
+    pub(crate) loan: Loan,
 }
 
 impl Model for FreeRange {
@@ -156,7 +156,7 @@ impl FreeRange {
 }
 
 // Writes the bytes of a loan, from the front on.
-fn fill(mut loan: Loan, memory: &Memory, base: *mut u8, at: usize, bytes: &[u8]) -> Shown
+pub(crate) fn fill(mut loan: Loan, memory: &Memory, base: *mut u8, at: usize, bytes: &[u8]) -> Shown
     requires loan { (loan.life ≡ memory.now.life) × (loan.base ≡ base) × (loan.at ≡ at) }
     requires bytes { (length loan.items ≡ length bytes.now) × (at + length bytes.now ≤ LARGEST) }
     ensures { ShownAs result loan.life base at bytes.now }

@@ -6,8 +6,10 @@
 //! ```
 //!
 //! A `FreeRange` may be filled, and no other range has its places. A `FrozenRange` may be read and
-//! shared, and its bytes never change. The block is freed when its last range is dropped. Only a new
-//! block and one owner more of a block (`make`, `split_at`, `share`) can want for memory.
+//! shared, and its bytes never change. A `WholeBlock` has all three ranges of a block and is its only
+//! owner, so that a block which nobody shares costs no count of owners. The block is freed when its last
+//! range is dropped. Only a new block and one owner more of a block (`make`, `split_at`, `share`,
+//! `into_ranges`) can want for memory.
 #![tactic(auto)]
 
 mod free;
@@ -15,6 +17,8 @@ mod frozen;
 mod memory;
 #[cfg(test)]
 mod tests;
+mod whole;
 
 pub use free::{FreeRange, RawBytes};
 pub use frozen::FrozenRange;
+pub use whole::WholeBlock;

@@ -7,16 +7,17 @@ use Rattle.byte_block.specs.Ranges.{Free, Frozen}
 use Rattle.edge_claims.specs.Sides.{won}
 use Rattle.edge_claims.specs.Rule.{first_places, last_places, BlockInvariant}
 use Rattle.edge_claims.specs.Steps.{Seated, with_front, with_back, grown_front, grown_back, filled_front, filled_back}
-use Rattle.edge_claims.specs.Window.{Seen, seen_of, view_of, Stands}
+use Rattle.edge_claims.specs.Window.{Seen}
+use Rattle.edge_claims.specs.Shared.{seen_of, view_of, Stands}
 use Rattle.edge_claims.specs.Grown.{GrownFront, GrownBack}
 use Rattle.edge_claims.specs.declared.view.End.{End}
 use Rattle.edge_claims.specs.declared.view.View.{View}
 use Rattle.edge_claims.specs.declared.view.Opening.{Opening}
-use Rattle.edge_claims.specs.declared.window.Window.TheInside.{Inside}
+use Rattle.edge_claims.specs.declared.shared.SharedWindow.TheInside.{Inside}
 use Rattle.edge_claims.proofs.Steps.{fills_front, fills_back}
 
 -- a list in front of a part that begins another
-joined : (bs xs : List ℕ) (s s' e e' : ℕ) → s ≡ 0 → s' ≡ 0 → e ≡ length bs + e' → slice_range (bs ++ xs) s e ≡ bs ++ slice_range xs s' e'
+pub joined : (bs xs : List ℕ) (s s' e e' : ℕ) → s ≡ 0 → s' ≡ 0 → e ≡ length bs + e' → slice_range (bs ++ xs) s e ≡ bs ++ slice_range xs s' e'
 joined bs xs s s' e e' p p' q =
     (λ k. slice_range (bs ++ xs) (p k) (q k)) ∙ take-append_past bs xs (e' - 0) (length bs + e' - 0) (omega arith) ∙ (λ k. bs ++ slice_range xs (sym p' k) e')
 
@@ -72,7 +73,7 @@ module _ (me me' : Seated) (e d d' : End) (bs : List ℕ) (free : me.1 ≡ []) (
   filled_back_is w last is told = told d' (held 1 w is) ∙ (λ i. (grown_back (wrote i) (ap (λ (m : Seated). m.0) is i), []))
 
 -- the window i before, and j after
-module _ (i j : Inside) (bs : List ℕ) (s : Stands i) (edges : j.edges ≡ i.edges) (table : j.seat.table_id ≡ i.seat.table_id) (capacity : j.capacity ≡ i.capacity) (some : 0 < length bs) where
+module _ (i j : Inside) (bs : List ℕ) (s : Stands i) (edges : j.edges ≡ i.edges) (table : j.seat.table_id ≡ i.seat.table_id) (capacity : j.capacity ≡ i.capacity) (claimed : j.claimed ≡ i.claimed) (some : 0 < length bs) where
   module _ (here : (view_of i).front.gap ≡ i.start) (fits : length bs ≤ i.start) (start : j.start ≡ i.start - length bs) (end : j.end ≡ i.end)
       (frozen : j.bytes ≡ record { block = i.bytes.block; from = i.bytes.from - length bs; bytes = bs ++ i.bytes.bytes })
       (seat : j.seat.me ≡ (grown_front bs (with_front (won i.start (i.start - length bs) (view_of i).front) (view_of i)), [])) where
@@ -120,7 +121,7 @@ module _ (i j : Inside) (bs : List ℕ) (s : Stands i) (edges : j.edges ≡ i.ed
               end = end;
               low_seen = λ _. ap (λ (m : Seated). (now m).front.seen) seat ∙ sym start;
               high_seen = ap (λ (m : Seated). (now m).capacity - (now m).back.seen) seat;
-              claims = ap (λ (m : Seated). (now m).front.claims + (now m).back.claims) seat ∙ omega (arith, fits);
+              claims = (λ k. claimed k + ap (λ (m : Seated). (now m).front.claims + (now m).back.claims) seat k) ∙ omega (arith, fits);
               there = record {
                 block = ap (λ (m : Seated). (now m).block) seat;
                 capacity = ap (λ (m : Seated). (now m).capacity) seat;
@@ -180,7 +181,7 @@ module _ (i j : Inside) (bs : List ℕ) (s : Stands i) (edges : j.edges ≡ i.ed
               end = end;
               low_seen = ap (λ (m : Seated). (then m).front.seen) seat;
               high_seen = λ _. last ∙ omega (arith, here, fits, end, all, rest_of);
-              claims = ap (λ (m : Seated). (then m).front.claims + (then m).back.claims) seat ∙ omega (arith, fits, here, all, rest_of);
+              claims = (λ k. claimed k + ap (λ (m : Seated). (then m).front.claims + (then m).back.claims) seat k) ∙ omega (arith, fits, here, all, rest_of);
               there = record {
                 block = ap (λ (m : Seated). (then m).block) seat;
                 capacity = ap (λ (m : Seated). (then m).capacity) seat;

@@ -5,4 +5,6 @@ pub mod Views
 pub mod BlockModels
 pub mod Steps
 pub mod Growth
+pub mod SoleGrowth
+pub mod Returned
 pub mod Trims

@@ -3,4 +3,8 @@ pub mod Sides
 pub mod Rule
 pub mod Steps
 pub mod Window
+pub mod Sole
+pub mod Shared
+pub mod Kinds
+pub mod Opened
 pub mod Grown

@@ -3,21 +3,12 @@
 ghost use Rattle.std.specs.Prelude.{◌≡◌, ◌+◌, ◌≤◌, length, true, IfOk, IfErr, IsOk, OnOk, OnErr};
 ghost use Rattle.byte_block.specs.Ranges.{LARGEST};
 
-use crate::plays::{ClaimBack, ClaimFront, Copy, FillBack, FillFront};
-use crate::view::{Claims, End, Opening, View, Wrote};
-use atomic_table::{Seat, Table};
-use byte_block::{FrozenRange, RawBytes};
+use crate::shared::SharedWindow;
+use crate::sole::SoleWindow;
+use core::mem::replace_with;
 use sim_base::NoMemory;
 use std::alloc::Global;
 use std::marker::Model;
-use std::sync::Arc;
-
-// The words of a table, and its slots.
-const FRONT: usize = 0;
-
-const BACK: usize = 1;
-
-type Edges = Table<End, View, Opening, Claims, Global>;
 
 /// Why a window did not grow in place.
 #[derive(Clone, Copy)]
@@ -36,27 +27,58 @@ pub enum Grow {
 /// ```
 ///
 /// A window whose start is the low edge may claim free places in front, one whose end is the high edge
-/// behind. The edges move outwards only.
+/// behind. The edges move outwards only. Until its first copy a window holds the free places itself; from
+/// then on they lie in a table, and windows in any threads claim them there.
 #[derive(Drop)]
 pub struct Window {
-    edges: Arc<Edges, Global>,
-    seat: Seat<End, View>,
-    bytes: FrozenRange,
-    start: u32,
-    end: u32,
-    capacity: u32,
+    kind: Kind,
+}
+
+#[derive(Drop)]
+enum Kind {
+    Sole(SoleWindow),
+    Shared(SharedWindow),
 }
 
 impl Model for Window {
-    ghost use Rattle.edge_claims.specs.Window.{Seen, seen_code, seen_of, Stands};
+    ghost use Rattle.edge_claims.specs.Window.{Seen, seen_code};
+    ghost use Rattle.edge_claims.specs.Kinds.{seen_of_kind};
 
     ghost Value = { Seen };
 
     ghost coded = { seen_code };
 
-    ghost view = { seen_of };
+    ghost view = { λ w. seen_of_kind w.kind };
+}
 
-    ghost invariant = { Stands };
+impl Kind {
+    ghost use Rattle.edge_claims.specs.Grown.{copied, shared};
+    ghost use Rattle.edge_claims.specs.Kinds.{seen_of_kind};
+
+    // The window with its block's free places in a table.
+    fn into_shared(self) -> Result<SharedWindow, SoleWindow>
+        ensures ok { IfOk result (λ w. w ≡ seen_of_kind self) }
+        ensures err { IfErr result (λ w. w ≡ seen_of_kind self) }
+    {
+        match self {
+            Kind::Sole(window) => SharedWindow::of(window),
+            Kind::Shared(window) => Ok(window),
+        }
+    }
+
+    // The window, and a copy of it.
+    fn copied(self, _: ()) -> (Kind, Result<SharedWindow, NoMemory>)
+        ensures ok { IfOk result.1 (λ c. (c ≡ copied (seen_of_kind self)) × (seen_of_kind result.0 ≡ shared (seen_of_kind self))) }
+        ensures err { OnErr result.1 (seen_of_kind result.0 ≡ seen_of_kind self) }
+    {
+        match self.into_shared() {
+            Ok(mut window) => {
+                let copy = window.copy();
+                (Kind::Shared(window), copy)
+            }
+            Err(window) => (Kind::Sole(window), Err(NoMemory)),
+        }
+    }
 }
 
 impl Window {
@@ -68,26 +90,8 @@ impl Window {
         requires { front + length bytes.now + back ≤ LARGEST }
         ensures { IfOk result (IsNew front bytes.now back) }
     {
-        let len = bytes.len() as u32;
-        let capacity = front + len + back;
-        let (low, rest) = RawBytes::make(alloc, capacity)?.split_at(front)?;
-        let (middle, high) = rest.split_at(len)?;
-        let opening = Opening {
-            bytes: middle.freeze(bytes),
-            capacity,
-        };
-        let ends = Vec::from_array(alloc, [End::of(low), End::of(high)])?;
-        let rooms = [front as u64, back as u64];
-        let Ok((edges, seat)) = Edges::new(alloc, &rooms, ends, &opening) else {
-            return Err(NoMemory);
-        };
         Ok(Window {
-            edges: Arc::new(alloc, edges)?,
-            seat,
-            bytes: opening.bytes,
-            start: front,
-            end: front + len,
-            capacity,
+            kind: Kind::Sole(SoleWindow::with_room(alloc, bytes, front, back)?),
         })
     }
 
@@ -95,10 +99,10 @@ impl Window {
     pub fn as_slice(&self) -> &[u8]
         ensures { result.now ≡ self.now.bytes }
     {
-        let all = self.bytes.slice();
-        let first = self.start - self.bytes.start();
-        let last = self.end - self.bytes.start();
-        &all[first as usize..last as usize]
+        match &self.kind {
+            Kind::Sole(window) => window.as_slice(),
+            Kind::Shared(window) => window.as_slice(),
+        }
     }
 
     /// Another window on the same bytes. From here on neither is alone. Where memory is wanting, this
@@ -107,16 +111,12 @@ impl Window {
         ensures ok { IfOk result (λ c. (c ≡ copied self.old) × (self.new ≡ shared self.old)) }
         ensures err { OnErr result (self.new ≡ self.old) }
     {
-        let edges = Arc::try_clone(&self.edges)?;
-        let bytes = self.bytes.share()?;
-        let seat = self.edges.shared.split_seat::<Copy>(&mut self.seat);
+        let copy = match &mut self.kind {
+            Kind::Shared(window) => window.copy()?,
+            Kind::Sole(_) => replace_with(&mut self.kind, (), Kind::copied)?,
+        };
         Ok(Window {
-            edges,
-            seat,
-            bytes,
-            start: self.start,
-            end: self.end,
-            capacity: self.capacity,
+            kind: Kind::Shared(copy),
         })
     }
 
@@ -128,30 +128,10 @@ impl Window {
         ensures empty { length bytes.now ≡ 0 → self.new ≡ self.old }
         ensures alone { self.old.alone ≡ true → self.old.start ≡ self.old.low_seen → length bytes.now ≤ self.old.start → IsOk result }
     {
-        if bytes.is_empty() {
-            return Ok(());
+        match &mut self.kind {
+            Kind::Sole(window) => window.grow_front(bytes),
+            Kind::Shared(window) => window.grow_front(bytes),
         }
-        let start = self.start;
-        if (start as usize) < bytes.len() {
-            return Err(Grow::NoRoom { room: start });
-        }
-        let low = start - bytes.len() as u32;
-        let shared = &self.edges.shared;
-        let found = shared.compare_exchange::<ClaimFront>(
-            &mut self.seat,
-            FRONT,
-            start as u64,
-            low as u64,
-        );
-        if found != start as u64 {
-            return Err(Grow::Moved { seen: found as u32 });
-        }
-        let end = self.seat.slot_mut(shared, FRONT);
-        end.free.freeze_last(bytes, &mut self.bytes);
-        end.wrote = Wrote::of(bytes);
-        shared.load::<FillFront>(&mut self.seat, FRONT);
-        self.start = low;
-        Ok(())
     }
 
     /// Puts the bytes behind the window's, in free places of its block. A refusal leaves the window but
@@ -162,32 +142,10 @@ impl Window {
         ensures empty { length bytes.now ≡ 0 → self.new ≡ self.old }
         ensures alone { self.old.alone ≡ true → self.old.end ≡ self.old.high_seen → self.old.end + length bytes.now ≤ self.old.capacity → IsOk result }
     {
-        if bytes.is_empty() {
-            return Ok(());
+        match &mut self.kind {
+            Kind::Sole(window) => window.grow_back(bytes),
+            Kind::Shared(window) => window.grow_back(bytes),
         }
-        let room = self.capacity - self.end;
-        if (room as usize) < bytes.len() {
-            return Err(Grow::NoRoom { room });
-        }
-        let left = room - bytes.len() as u32;
-        let shared = &self.edges.shared;
-        let found = shared.compare_exchange::<ClaimBack>(
-            &mut self.seat,
-            BACK,
-            room as u64,
-            left as u64,
-        );
-        if found != room as u64 {
-            return Err(Grow::Moved {
-                seen: self.capacity - found as u32,
-            });
-        }
-        let end = self.seat.slot_mut(shared, BACK);
-        end.free.freeze_first(bytes, &mut self.bytes);
-        end.wrote = Wrote::of(bytes);
-        shared.load::<FillBack>(&mut self.seat, BACK);
-        self.end += bytes.len() as u32;
-        Ok(())
     }
 
     /// Leaves off the first `n` bytes.
@@ -195,7 +153,10 @@ impl Window {
         requires { n ≤ length self.old.bytes }
         ensures { self.new ≡ trimmed_front n self.old }
     {
-        self.start += n;
+        match &mut self.kind {
+            Kind::Sole(window) => window.trim_front(n),
+            Kind::Shared(window) => window.trim_front(n),
+        }
     }
 
     /// Leaves off the last `n` bytes.
@@ -203,6 +164,9 @@ impl Window {
         requires { n ≤ length self.old.bytes }
         ensures { self.new ≡ trimmed_back n self.old }
     {
-        self.end -= n;
+        match &mut self.kind {
+            Kind::Sole(window) => window.trim_back(n),
+            Kind::Shared(window) => window.trim_back(n),
+        }
     }
 }
