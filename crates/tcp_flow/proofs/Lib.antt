@@ -1,2 +1,7 @@
 pub mod SmallSteps
 pub mod Carrying
+pub mod Indexing
+pub mod Lookups
+pub mod Adding
+pub mod Changing
+pub mod Exchanges

@@ -327,3 +327,35 @@ opening_small now mss h = let p = sent-small now true false 0 (begun_conn true m
 pub heard_syn_small : (now : ℕ) → All IsSmall (heard_syn now).effects
 unfolding heard_syn
 heard_syn_small now = let p = sent-small now true false 0 (begun_conn false 9000) (omega arith, omega arith) (omega arith) in p.all
+
+-- and segments stay small
+
+pub hears_sized : (now : ℕ) (s : Heard) (bytes : List ℕ) (c : Connection) → Sized c → Sized (hears now s bytes c).now
+unfolding hears
+hears_sized now s bytes c z = let p = in-small c.phase now s bytes c z in p.sized
+
+pub times_out_sized : (now : ℕ) (c : Connection) → Sized c → Sized (times_out now c).now
+unfolding times_out
+times_out_sized now c z =
+    let d = timed_out c in
+    let s = sent_again now c.phase d in
+    let y : Sized d = (subst (λ n. n ≤ 9000) (sym (step-size c.reno (Timeout c.una (in_flight c) c.max))) z.0, z.1) in
+    let p =
+    small-if (not c.timer) (silently c) (cond (nat_le 12 c.tries) (reset c) (and_then s (timer_restarted now)))
+    (silent c z)
+    (small-if (nat_le 12 c.tries) (reset c) (and_then s (timer_restarted now))
+    (reset-small c z)
+    (small-then s (timer_restarted now) (again-small now c.phase d y) (λ x. restarted now s.now x))) in
+    p.sized
+
+pub writes_sized : (now : ℕ) (bytes : List ℕ) (c : Connection) → Sized c → Sized (writes now bytes c).now
+unfolding writes
+writes_sized now bytes c z = let p = pumped-small now (with_bytes bytes c) z in p.sized
+
+pub closes_sized : (now : ℕ) (c : Connection) → Sized c → Sized (closes now c).now
+unfolding closes
+closes_sized now c z = let p = pumped-small now (record c { closing = true }) z in p.sized
+
+pub opening_sized : (now mss : ℕ) → mss ≤ 9000 → Sized (opening now mss).now
+unfolding opening
+opening_sized now mss h = let p = sent-small now true false 0 (begun_conn true mss) (h, h) (omega arith) in p.sized

@@ -6,12 +6,16 @@ use Rattle.layer_words.specs.Counting.{count_up, new_uid, with_packet}
 use Rattle.tcp_conn.specs.declared.connection.Connection.{Connection}
 use Rattle.tcp_conn.specs.declared.words.Effect.{Effect}
 use Rattle.tcp_conn.specs.declared.words.Effect.TheVariants.{Emit, TimerAt, Connected, Room, Deliver, End, Reset, Dropped}
+use Rattle.tcp_conn.specs.Begin.{writes, closes}
 use Rattle.tcp_conn.specs.OnItsWay.{said, bytes_of}
 use Rattle.tcp_conn.specs.Send.{Stepped}
+use Rattle.tcp_conn.specs.Step.{hears, times_out}
 use Rattle.tcp_wire.specs.declared.words.SocketPair.{SocketPair}
 use Rattle.tcp_wire.specs.Segment.{segment}
 use Rattle.tcp_flow.specs.declared.words.Act.{Act}
 use Rattle.tcp_flow.specs.declared.words.Act.TheVariants.{Emit as EmitAct, TimerAt as TimerAct, Connected as ConnectedAct, Room as RoomAct, Deliver as DeliverAct, End as EndAct, Reset as ResetAct, Dropped as DroppedAct}
+use Rattle.tcp_flow.specs.declared.words.Event.{Event}
+use Rattle.tcp_flow.specs.declared.words.Event.TheVariants.{Segment, Timer, Write, Close}
 use Rattle.tcp_flow.specs.declared.conn.Conn.{Conn}
 
 -- a connection and the node's numbers after some of what it asked for was done, and the acts, in this order
@@ -58,3 +62,13 @@ fresh number app pair c = record { number = number; app = app; pair = pair; conn
 
 abbrev pub begun : ℕ → ℕ → SocketPair → Numbers → Stepped → Done
 begun number app pair n s = all_done (fresh number app pair s.now) n s.effects
+
+-- an event of a connection, and what is done then
+abbrev pub event_of : ℕ → Event → Connection → Stepped
+event_of now (Segment a) c = hears now a.says a.bytes c
+event_of now Timer c = times_out now c
+event_of now (Write bytes) c = writes now bytes c
+event_of now Close c = closes now c
+
+abbrev pub happened : ℕ → Event → Conn → Numbers → Done
+happened now event k n = stepped k n (event_of now event k.connection)

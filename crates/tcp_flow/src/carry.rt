@@ -34,6 +34,7 @@ impl Conn {
         ensures numbers { OnOk result (numbers.new ≡ (all_done self.old numbers.old effects.now).numbers) }
         ensures acts { OnOk result (Appends (plain_act P.plain) out.old.items out.new.items (all_done self.old numbers.old effects.now).acts) }
         ensures connection { OnOk result (self.new.connection ≡ self.old.connection) }
+        ensures pair { self.new.pair ≡ self.old.pair }
     {
         for effect in effects {
             self.carry_out_one(alloc, effect, maker, numbers, out)?;
@@ -54,6 +55,7 @@ impl Conn {
         ensures numbers { OnOk result (numbers.new ≡ (done self.old numbers.old effect.now).numbers) }
         ensures acts { OnOk result (Appends (plain_act P.plain) out.old.items out.new.items (done self.old numbers.old effect.now).acts) }
         ensures connection { OnOk result (self.new.connection ≡ self.old.connection) }
+        ensures pair { self.new.pair ≡ self.old.pair }
     {
         let app = self.app;
         match effect {

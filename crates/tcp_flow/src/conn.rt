@@ -46,6 +46,7 @@ impl Conn {
         ensures numbers { OnOk result (numbers.new ≡ (begun number app pair numbers.old (opening now.0 mss)).numbers) }
         ensures acts { OnOk result (Appends (plain_act P.plain) out.old.items out.new.items (begun number app pair numbers.old (opening now.0 mss)).acts) }
         ensures fits { IfOk result (λ k. Fits k.connection) }
+        ensures pair { IfOk result (λ k. k.pair ≡ pair) }
     {
         let mut effects = Vec::new(alloc);
         let connection = Connection::open(alloc, now, mss, &mut effects)?;
@@ -76,6 +77,7 @@ impl Conn {
         ensures numbers { OnOk result (numbers.new ≡ (begun number app pair numbers.old (heard_syn now.0)).numbers) }
         ensures acts { OnOk result (Appends (plain_act P.plain) out.old.items out.new.items (begun number app pair numbers.old (heard_syn now.0)).acts) }
         ensures fits { IfOk result (λ k. Fits k.connection) }
+        ensures pair { IfOk result (λ k. k.pair ≡ pair) }
     {
         let mut effects = Vec::new(alloc);
         let connection = Connection::accept(alloc, now, &mut effects)?;
@@ -107,6 +109,7 @@ impl Conn {
         ensures numbers { OnOk result (numbers.new ≡ (stepped self.old numbers.old (hears now.0 arrived.now.says arrived.now.bytes self.old.connection)).numbers) }
         ensures acts { OnOk result (Appends (plain_act P.plain) out.old.items out.new.items (stepped self.old numbers.old (hears now.0 arrived.now.says arrived.now.bytes self.old.connection)).acts) }
         ensures fits { OnOk result (Fits self.new.connection) }
+        ensures pair { self.new.pair ≡ self.old.pair }
     {
         let mut effects = Vec::new(alloc);
         let _size = self.connection.reno.smss();
@@ -131,6 +134,7 @@ impl Conn {
         ensures numbers { OnOk result (numbers.new ≡ (stepped self.old numbers.old (times_out now.0 self.old.connection)).numbers) }
         ensures acts { OnOk result (Appends (plain_act P.plain) out.old.items out.new.items (stepped self.old numbers.old (times_out now.0 self.old.connection)).acts) }
         ensures fits { OnOk result (Fits self.new.connection) }
+        ensures pair { self.new.pair ≡ self.old.pair }
     {
         let mut effects = Vec::new(alloc);
         let _size = self.connection.reno.smss();
@@ -154,6 +158,7 @@ impl Conn {
         ensures numbers { OnOk result (numbers.new ≡ (stepped self.old numbers.old (writes now.0 bytes.now self.old.connection)).numbers) }
         ensures acts { OnOk result (Appends (plain_act P.plain) out.old.items out.new.items (stepped self.old numbers.old (writes now.0 bytes.now self.old.connection)).acts) }
         ensures fits { OnOk result (Fits self.new.connection) }
+        ensures pair { self.new.pair ≡ self.old.pair }
     {
         let mut effects = Vec::new(alloc);
         let _size = self.connection.reno.smss();
@@ -176,6 +181,7 @@ impl Conn {
         ensures numbers { OnOk result (numbers.new ≡ (stepped self.old numbers.old (closes now.0 self.old.connection)).numbers) }
         ensures acts { OnOk result (Appends (plain_act P.plain) out.old.items out.new.items (stepped self.old numbers.old (closes now.0 self.old.connection)).acts) }
         ensures fits { OnOk result (Fits self.new.connection) }
+        ensures pair { self.new.pair ≡ self.old.pair }
     {
         let mut effects = Vec::new(alloc);
         let _size = self.connection.reno.smss();

@@ -3,9 +3,15 @@
 
 mod carry;
 mod conn;
+mod conns;
+mod event;
+mod law;
 mod stray;
+mod table;
 mod words;
 
 pub use conn::Conn;
+pub use conns::Conns;
+pub use law::deliveries_of_packets_are_a_prefix;
 pub use stray::refuse;
-pub use words::{Act, Seg};
+pub use words::{Act, Event, In, Seg};

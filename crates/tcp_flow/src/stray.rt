@@ -45,7 +45,7 @@ pub fn refuse<P: Pkt>(
 }
 
 /// Who answers whom.
-fn answering(src: u32, dst: u32, arrived: &Arrived) -> SocketPair
+pub(crate) fn answering(src: u32, dst: u32, arrived: &Arrived) -> SocketPair
     ensures { result ≡ answering src dst arrived.now }
 {
     SocketPair {

@@ -1,3 +1,4 @@
 pub mod Data
 pub mod RightChecksum
 pub mod ReadBack
+pub mod Short

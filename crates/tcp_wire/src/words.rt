@@ -4,7 +4,7 @@ use sim_base::Sequence;
 use tcp_conn::Heard;
 
 /// A connection's own address and port, and the other side's.
-#[derive(Clone, Copy, Debug, PartialEq, Eq)]
+#[derive(Clone, Copy, Debug, PartialEq, Eq, Hash)]
 pub struct SocketPair {
     pub addr: u32,
     pub port: u16,

@@ -8,6 +8,7 @@ loop-effect-init g c =
     record {
       carried = none-carried c.args.self.now c.args.numbers.now (map (plain_act g.P.Pkt.plain) c.args.out.now.items) c.args.effects.now;
       connection = refl;
+      pair = refl;
     }
 
 pub loop-effect-preserved : goal.loop-effect-preserved
@@ -26,4 +27,5 @@ loop-effect-preserved g c =
           c.in_ok-carry_out_one.ensures.conn c.in_ok-carry_out_one.ensures.numbers c.in_ok-carry_out_one.ensures.acts
           c.loop-effect.invariant.carried;
       connection = c.in_ok-carry_out_one.ensures.connection ∙ c.loop-effect.invariant.connection;
+      pair = c.carry_out_one.ensures.pair ∙ c.loop-effect.invariant.pair;
     }

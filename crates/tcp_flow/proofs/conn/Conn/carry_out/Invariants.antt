@@ -10,4 +10,5 @@ invariant-loop-effect g l =
           IsCarried l.initial.self l.initial.numbers (map (plain_act g.P.Pkt.plain) l.initial.out.items) l.effects
           l.self l.numbers (map (plain_act g.P.Pkt.plain) l.out.items) (drop l.effect-index l.effects);
       connection : l.self.connection ≡ l.initial.self.connection;
+      pair : l.self.pair ≡ l.initial.self.pair;
     }

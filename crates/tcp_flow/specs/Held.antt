@@ -1,0 +1,13 @@
+-- The invariant of a node's connections.
+use Rattle.std.specs.BTreeSet as set
+use Rattle.std.specs.HashMap as hash
+use Rattle.std.specs.Ordering.{nat_cmp}
+use Rattle.tcp_flow.specs.declared.table.Table.TheInside.{Inside}
+use Rattle.tcp_flow.specs.Index.{IsIndexed, InOrder}
+use Rattle.tcp_flow.specs.Table.{under, same_pair}
+
+-- the index has each connection, and the free numbers are those below `next` that no connection has
+pub record IsHeld (t : Inside) : Type 0 where
+  pub in_order : InOrder t.conns.entries
+  pub indexed : IsIndexed (λ number. under number t.conns.entries) (hash.get same_pair t.index) (set.contains nat_cmp t.free) t.next
+  pub free_in_order : set.IsOrdered nat_cmp t.free

@@ -1,0 +1,19 @@
+//! The law of the delivered prefix, over packets.
+
+ghost use Rattle.std.specs.Prelude.{◌≡◌, ℕ, List, true};
+ghost use Rattle.tcp_stream.specs.History.{IsPrefixOf, delivered, has_end};
+ghost use Rattle.tcp_flow.specs.Exchange.{Happening, IsOpening, Opening, WritesBytes, opened, run};
+
+/// Whatever happens to an opener, and whichever of its packets come to the sink, how often and in which order: what the
+/// sink hands to its application is a prefix of what the opener's writes have taken, and it tells the end only after the
+/// close, when it has handed on all of it. It rests on two laws: segments are read as they were written, and the
+/// deliveries of segments are a prefix.
+pub fn deliveries_of_packets_are_a_prefix()
+    ensures prefix { (begin : Opening) (number app : ℕ) (happenings : List Happening) → IsOpening begin → WritesBytes happenings →
+        IsPrefixOf (delivered (run number app (opened begin) happenings).told) (run number app (opened begin) happenings).written }
+    ensures end { (begin : Opening) (number app : ℕ) (happenings : List Happening) → IsOpening begin → WritesBytes happenings → has_end (run number app (opened begin) happenings).told ≡ true →
+        ((run number app (opened begin) happenings).opener.connection.closing ≡ true) × (delivered (run number app (opened begin) happenings).told ≡ (run number app (opened begin) happenings).written) }
+{
+    tcp_conn::deliveries_are_a_prefix();
+    tcp_wire::segments_are_read_as_written();
+}
