@@ -39,3 +39,10 @@ Answers w HasPut (Ok report) = HasEnded w report × HasPut (run_lines w)
 Answers w HasPut (Err (Limit key node)) = MeetsLimit w key node × HasPut (run_lines w)
 Answers w HasPut (Err NoMemory) = (put : List (Line Packet)) × IsPrefixOf put (run_lines w) × HasPut put
 Answers w HasPut (Err WriteFault) = (put : List (Line Packet)) × IsPrefixOf put (run_lines w) × HasPut put
+
+-- an answer that comes when all lines were put: the run has come to its end or to its limit
+abbrev pub PutsAll : Result Report KernelStop → Type 0
+PutsAll (Ok report) = Unit {0}
+PutsAll (Err (Limit key node)) = Unit {0}
+PutsAll (Err NoMemory) = ⊥
+PutsAll (Err WriteFault) = ⊥

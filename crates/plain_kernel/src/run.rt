@@ -3,7 +3,7 @@
 ghost use Rattle.std.specs.Prelude.{◌≡◌, ◌≤◌, ◌^◌, false};
 ghost use Rattle.outside.specs.Causes.{HasCause};
 ghost use Rattle.sim_world.specs.Opening.{OpensRuns};
-ghost use Rattle.plain_kernel.specs.Stop.{Answers};
+ghost use Rattle.plain_kernel.specs.Stop.{Answers, PutsAll};
 
 use crate::outcome::{Outcome, Ran};
 use crate::report::Report;
@@ -24,6 +24,7 @@ pub fn run_plain<P: Pkt, L: LineOut<P>>(
     requires going { L.has_failed lines.old ≡ false }
     ensures making { L.made_with lines.new ≡ L.made_with lines.old }
     ensures answers { Answers world (L.HasPut lines.old lines.new) result }
+    ensures going { PutsAll result → L.has_failed lines.new ≡ false }
     ensures cause { HasCause KernelStop.WriteFault (L.faults lines.old) (L.faults lines.new) result }
 {
     let Ok(ran) = Ran::of(world) else {

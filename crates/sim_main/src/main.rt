@@ -4,6 +4,8 @@
 #![tactic(auto)]
 
 use outside::{FolderStore, StdinSource, StdoutSink};
+use pkt_face::PlainPkt;
+use sim_base::{NodeId, Time};
 use sim_run::{Code, Refusal, Status, WordCode, WordFault, run_program};
 use std::fs::File;
 use std::process::ExitCode;
@@ -51,7 +53,7 @@ fn run(rt: &HostRuntime) -> Status {
     let mut source = StdinSource::new(rt.stdin());
     let mut store = FolderStore::new(rt.alloc(), folder);
     let mut sink = StdoutSink::new(rt.stdout());
-    run_program(
+    run_program::<PlainPkt, _, _, _>(
         rt.alloc(),
         &words[..words.len().min(WORDS)],
         &mut source,
@@ -71,6 +73,10 @@ fn write_fault_line(rt: &HostRuntime, status: Status) -> io::Result<()> {
         Status::Scenario(refusal) => write_refusal_line(rt, refusal),
         Status::ReadFault => println!(rt; "read fault"),
         Status::WriteFault => println!(rt; "write fault"),
+        Status::Limit {
+            node: NodeId(node),
+            time: Time(time),
+        } => println!(rt; "limit node {node} time {time}"),
         Status::NoMemory => println!(rt; "no memory"),
     }
 }
@@ -127,6 +133,7 @@ fn exit_code(status: Status) -> u8 {
         Status::Scenario(_) => 2,
         Status::ReadFault => 3,
         Status::WriteFault => 4,
+        Status::Limit { .. } => 5,
         Status::NoMemory => 6,
     }
 }

@@ -1,7 +1,9 @@
 pub mod Outputs
-pub mod NewFiles
 pub mod WholeInput
 pub mod Joined
+pub mod SummaryLaws
+pub mod SavingLaws
+pub mod RunLaws
 pub mod CaptureLaws
 pub mod PieceLaws
 pub mod SavedLaws

@@ -1,13 +1,13 @@
 -- The reading of what was read is that of the whole input.
-use Rattle.std.proofs.Common.{◌≡◌, ℕ, ◌+◌, ◌≤◌, ◌<◌, List, [], ◌++◌, length, length-append, Option, Some, None, ap, sym, ◌∙◌, append-nil, subst, arith, inl, inr, Result, Err, IfSome}
+use Rattle.std.proofs.Common.{◌≡◌, ℕ, ◌+◌, ◌<◌, List, [], ◌++◌, length, length-append, Option, Some, None, ap, sym, ◌∙◌, append-nil, subst, arith, inl, inr, Result, Err, IfSome}
 use Rattle.std.proofs.lemmas.Bool.Decides.{leb_tells}
 use Rattle.std.proofs.lemmas.Bool.{le-leb}
 use Rattle.scenario_form.specs.declared.refusal.Refusal.{Refusal}
 use Rattle.scenario_form.specs.declared.refusal.Refusal.TheVariants.{TooLong}
+use Rattle.scenario_form.specs.declared.scenario.Scenario.{Scenario}
 use Rattle.scenario_form.specs.Reading.{scenario_of, scenario_limit}
-use Rattle.path_form.specs.declared.reader.Reading.{Reading}
-use Rattle.path_form.specs.Reading.{reading_of}
 use Rattle.sim_run.specs.Input.{HasReadAll}
+use Rattle.sim_run.specs.Reading.{reading_of}
 
 refused_long : (bytes : List ℕ) → scenario_limit < length bytes → scenario_of bytes ≡ Err (TooLong (scenario_limit + 1))
 unfolding scenario_of
@@ -29,15 +29,8 @@ reading_of-read input bytes now read =
           too_long input bytes more long.1
     ]
 
--- a short input was read to its end
-pub ends-read : (input bytes : List ℕ) (now : Option (List ℕ)) → HasReadAll scenario_limit (Some input) bytes now → length bytes ≤ scenario_limit → now ≡ Some []
-ends-read input bytes now read short =
-    let (rest, whole, left) = read.read in
-    let ended : rest ≡ [] = rw left at (read.end short) in
-    left ∙ ap Some ended
-
 -- what holds of the reading of the bytes that were read holds of that of the input, where it is told
-pub on_input : (left : Option (List ℕ)) (bytes : List ℕ) (now : Option (List ℕ)) (P : Result Reading Refusal → Type 0)
+pub on_input : (left : Option (List ℕ)) (bytes : List ℕ) (now : Option (List ℕ)) (P : Result Scenario Refusal → Type 0)
     → HasReadAll scenario_limit left bytes now → P (reading_of bytes) → IfSome left (λ input. P (reading_of input))
 on_input None bytes now P read holds = tt
 on_input (Some input) bytes now P read holds = subst P (sym (reading_of-read input bytes now read)) holds

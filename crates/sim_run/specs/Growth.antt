@@ -1,5 +1,5 @@
 -- What one file has after whole writes, where the store tells it.
-use Rattle.std.specs.Prelude.{◌≡◌, ℕ, ◌<◌, List, [], ◌∷◌, ◌++◌, length, take, Option, Some, None}
+use Rattle.std.specs.Prelude.{◌≡◌, ℕ, ◌<◌, List, ◌++◌, length, take, Option, Some, None}
 use Rattle.outside.specs.declared.store.File.{File}
 use Rattle.outside.specs.Store.{append_to}
 
@@ -11,12 +11,6 @@ HasGrown (Some files) after place piece = after ≡ Some (append_to place piece 
 -- the file has grown by a front of the piece
 abbrev pub HasGrownPartly : Option (List File) → Option (List File) → ℕ → List ℕ → Type 0
 HasGrownPartly before after place piece = (n : ℕ) × HasGrown before after place (take n piece)
-
--- a file of this number was added, and has these bytes
-abbrev pub HasNewFile : Option (List File) → Option (List File) → ℕ → List ℕ → List ℕ → Type 0
-HasNewFile None after number name bytes = Unit {0}
-HasNewFile (Some files) after number name bytes =
-    (number ≡ length files) × (after ≡ Some (files ++ record { name = name; bytes = bytes } ∷ []))
 
 -- these files were added, the first of which has this number
 abbrev pub HasNewFiles : Option (List File) → Option (List File) → ℕ → List File → Type 0

@@ -1,11 +1,15 @@
-pub mod Files
 pub mod Captures
 pub mod Pieces
 pub mod Places
 pub mod Grown
-pub mod Text
+pub mod Run
+pub mod Summary
+pub mod Sizes
+pub mod Reading
 pub mod Input
 pub mod Output
 pub mod Growth
+pub mod Stop
+pub mod Saving
 pub mod Command
 pub mod Plain

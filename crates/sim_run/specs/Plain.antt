@@ -1,18 +1,20 @@
 -- The plain program: what an honest run of one thread would answer, write to files, and print.
 use Rattle.std.specs.Prelude.{◌≡◌, ℕ, List, [], Result, Ok, Err, ◌⊎◌}
 use Rattle.outside.specs.declared.store.File.{File}
+use Rattle.round_core.specs.Rounds.{Done as Ended, Limited}
 use Rattle.scenario_form.specs.declared.refusal.Refusal.{Refusal}
-use Rattle.path_form.specs.declared.reader.Reading.{Reading}
+use Rattle.scenario_form.specs.declared.scenario.Scenario.{Scenario}
 use Rattle.sim_run.specs.declared.command.Command.{Command}
 use Rattle.sim_run.specs.declared.command.Command.TheVariants.{Run, Check}
 use Rattle.sim_run.specs.declared.command.WordFault.{WordFault}
 use Rattle.sim_run.specs.declared.status.Status.{Status}
-use Rattle.sim_run.specs.declared.status.Status.TheVariants.{Done, Words, Scenario as Refused, ReadFault, WriteFault, NoMemory}
+use Rattle.sim_run.specs.declared.status.Status.TheVariants.{Done, Words, Scenario as Refused, ReadFault, WriteFault, Limit, NoMemory}
+use Rattle.sim_run.specs.Captures.{run_files}
 use Rattle.sim_run.specs.Command.{command_of}
-use Rattle.path_form.specs.Reading.{reading_of}
-use Rattle.path_kernel.specs.World.{last_world}
-use Rattle.sim_run.specs.Files.{files_of}
-use Rattle.sim_run.specs.Text.{summary, sizes_line}
+use Rattle.sim_run.specs.Reading.{reading_of}
+use Rattle.sim_run.specs.Run.{RunEnding, ending_of, lines_of, events_in, drops_in, counts_in}
+use Rattle.sim_run.specs.Sizes.{sizes_line}
+use Rattle.sim_run.specs.Summary.{summary}
 
 -- an answer, the files that go with it in their order, and the text
 pub record Outcome : Type 0 where
@@ -23,22 +25,24 @@ pub record Outcome : Type 0 where
 abbrev pub refused : Status → Outcome
 refused status = record { status = status; files = []; text = [] }
 
--- a run makes the captures, and a check makes no file
-abbrev pub files_for : Command → Reading → List File
-files_for Run reading = files_of (last_world reading.built)
-files_for Check reading = []
+-- a run comes to its end, or to the limit of a node
+abbrev pub run_status : RunEnding → Status
+run_status (Ended final) = Done
+run_status (Limited key fired) = Limit key.node key.time
 
--- a run writes its summary, and a check the sizes of the scenario
-abbrev pub text_for : Command → Reading → List ℕ
-text_for Run reading = summary (last_world reading.built)
-text_for Check reading = sizes_line reading.whole
+-- at its end a run writes its summary, and at a limit nothing
+abbrev pub run_text : Scenario → RunEnding → List ℕ
+run_text s (Ended final) = summary (events_in final) (drops_in s final) s.apps (counts_in s final)
+run_text s (Limited key fired) = []
 
-abbrev pub finished : Command → Reading → Outcome
-finished command reading = record { status = Done; files = files_for command reading; text = text_for command reading }
+-- a run makes the captures, and a check writes the sizes of the scenario
+abbrev pub finished : Command → Scenario → Outcome
+finished Run s = record { status = run_status (ending_of s); files = run_files s (lines_of s); text = run_text s (ending_of s) }
+finished Check s = record { status = Done; files = []; text = sizes_line s }
 
 -- a refused scenario is answered alike by every command
-abbrev pub answered : Command → Result Reading Refusal → Outcome
-answered command (Ok reading) = finished command reading
+abbrev pub answered : Command → Result Scenario Refusal → Outcome
+answered command (Ok s) = finished command s
 answered command (Err refusal) = refused (Refused refusal)
 
 abbrev pub outcome_of : Result Command WordFault → List ℕ → Outcome

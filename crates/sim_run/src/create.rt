@@ -13,9 +13,8 @@ ghost use Rattle.sim_run.specs.Pieces.{AreApart};
 
 use crate::captures::{Capture, captures_of};
 use crate::pieces::Pieces;
-use crate::stop::{RunStop, stopped};
 use crate::trace_files::append_pieces;
-use outside::TraceStore;
+use outside::{StoreStop, TraceStore};
 use scenario_form::Scenario;
 use sim_base::NoMemory;
 use std::alloc::Global;
@@ -32,7 +31,7 @@ pub fn open_captures<F: TraceStore>(
     alloc: Global,
     scenario: &Scenario,
     store: &mut F,
-) -> Result<Opened, RunStop>
+) -> Result<Opened, StoreStop>
     requires { (rest : List ℕ) → F.takes store.old (codes "trace" ++ rest) }
     ensures captures { IfOk result (λ opened. opened.pieces.captures ≡ captures_of scenario.now) }
     ensures ok { IfOk result (λ opened. HasNewFiles (F.files store.old) (F.files store.new) opened.first (capture_files (captures_of scenario.now) [])) }
@@ -40,21 +39,21 @@ pub fn open_captures<F: TraceStore>(
     ensures numbers { IfOk result (λ opened. opened.first + length (captures_of scenario.now) ≤ 2 ^ 64) }
     ensures err { OnErr result ((lines : List (Line Packet)) → HasFilePrefixes (F.files store.old) (F.files store.new) (capture_files (captures_of scenario.now) lines)) }
     ensures later { F.faults store.old ≤ F.faults store.new }
-    ensures cause { IfErr result (λ stop. stop ≡ RunStop.WriteFault → Rose (F.faults store.old) (F.faults store.new)) }
+    ensures cause { IfErr result (λ stop. stop ≡ StoreStop.Failed → Rose (F.faults store.old) (F.faults store.new)) }
 {
     let Ok(captures) = captures_of(alloc, scenario) else {
-        return Err(RunStop::NoMemory);
+        return Err(StoreStop::NoMemory);
     };
     let first = match create_files(alloc, store, &captures) {
         Ok(first) => first,
         Err(stop) => return Err(stop),
     };
     let Ok(pieces) = Pieces::make(alloc, captures) else {
-        return Err(RunStop::NoMemory);
+        return Err(StoreStop::NoMemory);
     };
     match append_pieces(store, first, &pieces) {
         Ok(()) => Ok(Opened { first, pieces }),
-        Err(head_stop) => Err(stopped(head_stop)),
+        Err(head_stop) => Err(head_stop),
     }
 }
 
@@ -63,7 +62,7 @@ fn create_files<F: TraceStore>(
     alloc: Global,
     store: &mut F,
     captures: &[Capture],
-) -> Result<u64, RunStop>
+) -> Result<u64, StoreStop>
     requires names { (rest : List ℕ) → F.takes store.old (codes "trace" ++ rest) }
     requires apart { AreApart captures.now }
     requires numbers { AllByRecursion HasNumbers captures.now }
@@ -72,16 +71,16 @@ fn create_files<F: TraceStore>(
     ensures numbers { IfOk result (λ first. first + length captures.now ≤ 2 ^ 64) }
     ensures err { OnErr result ((lines : List (Line Packet)) → HasFilePrefixes (F.files store.old) (F.files store.new) (capture_files captures.now lines)) }
     ensures later { F.faults store.old ≤ F.faults store.new }
-    ensures cause { IfErr result (λ stop. stop ≡ RunStop.WriteFault → Rose (F.faults store.old) (F.faults store.new)) }
+    ensures cause { IfErr result (λ stop. stop ≡ StoreStop.Failed → Rose (F.faults store.old) (F.faults store.new)) }
 {
     let mut first = 0;
     for (i, capture) in captures.iter().enumerate() {
         let Ok(name) = capture_name(alloc, capture) else {
-            return Err(RunStop::NoMemory);
+            return Err(StoreStop::NoMemory);
         };
         let number = match store.create(name.as_str()) {
             Ok(number) => number,
-            Err(stop) => return Err(stopped(stop)),
+            Err(stop) => return Err(stop),
         };
         first = first_of(i, first, number);
     }

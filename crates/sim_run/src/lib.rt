@@ -4,11 +4,11 @@
 mod captures;
 mod command;
 mod create;
-mod files;
 mod input;
 mod output;
 mod pieces;
 mod program;
+mod reading;
 mod simulate;
 mod sizes;
 mod status;

@@ -1,29 +1,34 @@
 //! The top call: the words, the source, the scenario, the run, in this order. The first that refuses
 //! decides the answer.
 
-ghost use Rattle.std.specs.Prelude.{◌≡◌, ◌≢◌, length, ◌≤◌, ◌⊎◌, ℕ, List, ◌++◌, Some, [], map, string_bytes, codes, Err, OnOk, OnErr, IfErr, IfSome};
+ghost use Rattle.std.specs.Prelude.{◌≡◌, ◌≢◌, length, ◌≤◌, ◌⊎◌, ℕ, List, ◌++◌, Some, [], map, string_bytes, codes, false, Err, OnOk, IfErr, IfSome};
 ghost use Rattle.outside.specs.Causes.{Rose};
-ghost use Rattle.path_scenario.specs.Scenario.{IsWithinLimits};
+ghost use Rattle.sim_base.specs.declared.key.NodeId.{NodeId};
+ghost use Rattle.sim_base.specs.declared.time.Time.{Time};
+ghost use Rattle.scenario_form.specs.Limits.{IsWithinLimits};
 ghost use Rattle.scenario_form.specs.Reading.{scenario_limit};
-ghost use Rattle.path_form.specs.Reading.{reading_of};
+ghost use Rattle.sim_world.specs.NotBuilt.{not_built};
 ghost use Rattle.sim_run.specs.Output.{HasFiles, HasFilePrefixes, HasGot, HasGotPrefix};
 ghost use Rattle.sim_run.specs.Command.{command_of};
 ghost use Rattle.sim_run.specs.declared.command.WordFault.{WordFault};
-ghost use Rattle.sim_run.specs.Plain.{plain, answered, files_for, text_for, IsAnswer, BeforeFiles};
+ghost use Rattle.sim_run.specs.Plain.{plain, answered, finished, IsAnswer, BeforeFiles};
+ghost use Rattle.sim_run.specs.Reading.{reading_of};
+ghost use Rattle.sim_run.specs.Stop.{IsWhole};
 
 use crate::command::{Command, read_command};
 use crate::input::{InputStop, read_all};
+use crate::reading::read_built;
 use crate::simulate::simulate;
 use crate::sizes::write_sizes;
 use crate::status::Status;
-use crate::stop::RunStop;
+use crate::stop::{RunStop, stopped};
 use outside::{Sink, Source, TraceStore};
-use path_form::{Reading, read_scenario};
-use scenario_form::{ReadStop, SCENARIO_LIMIT};
+use pkt_face::Pkt;
+use scenario_form::{ReadStop, SCENARIO_LIMIT, Scenario};
 use std::alloc::Global;
 
 /// Runs the program that the words name, over a source, a store and a sink.
-pub fn run_program<S: Source, F: TraceStore, O: Sink>(
+pub fn run_program<P: Pkt, S: Source, F: TraceStore, O: Sink>(
     alloc: Global,
     words: &[String],
     source: &mut S,
@@ -57,13 +62,13 @@ pub fn run_program<S: Source, F: TraceStore, O: Sink>(
     ensures complete { ¬ Rose (S.faults source.old) (S.faults source.new) → ¬ Rose (F.faults store.old) (F.faults store.new) → ¬ Rose (O.faults out.old) (O.faults out.new) → IfSome (S.left source.old) (λ input. (result ≡ (plain (map string_bytes words.now) input).status) ⊎ (result ≡ Status.NoMemory)) }
 {
     match read_command(words) {
-        Ok(command) => run_source(alloc, command, source, store, out),
+        Ok(command) => run_source::<P, S, F, O>(alloc, command, source, store, out),
         Err(fault) => Status::Words(fault),
     }
 }
 
 /// Carries out a command on the scenario that the source spells, or answers its refusal.
-fn run_source<S: Source, F: TraceStore, O: Sink>(
+fn run_source<P: Pkt, S: Source, F: TraceStore, O: Sink>(
     alloc: Global,
     command: Command,
     source: &mut S,
@@ -88,11 +93,11 @@ fn run_source<S: Source, F: TraceStore, O: Sink>(
         Err(InputStop::Failed) => return Status::ReadFault,
         Err(InputStop::NoMemory) => return Status::NoMemory,
     };
-    run_bytes(alloc, command, bytes.as_slice(), store, out)
+    run_bytes::<P, F, O>(alloc, command, bytes.as_slice(), store, out)
 }
 
 /// Carries out a command on the scenario that the bytes spell, or answers its refusal.
-fn run_bytes<F: TraceStore, O: Sink>(
+fn run_bytes<P: Pkt, F: TraceStore, O: Sink>(
     alloc: Global,
     command: Command,
     bytes: &[u8],
@@ -112,37 +117,44 @@ fn run_bytes<F: TraceStore, O: Sink>(
     ensures later { (F.faults store.old ≤ F.faults store.new) × (O.faults out.old ≤ O.faults out.new) }
     ensures write_fault { result ≡ Status.WriteFault → Rose (F.faults store.old) (F.faults store.new) ⊎ Rose (O.faults out.old) (O.faults out.new) }
 {
-    let reading = match read_scenario(alloc, bytes) {
-        Ok(reading) => reading,
+    let scenario = match read_built(alloc, bytes) {
+        Ok(scenario) => scenario,
         Err(ReadStop::Refused(refusal)) => return Status::Scenario(refusal),
         Err(ReadStop::NoMemory) => return Status::NoMemory,
     };
-    match carry_out(alloc, command, &reading, store, out) {
+    match carry_out::<P, F, O>(alloc, command, &scenario, store, out) {
         Ok(()) => Status::Done,
         Err(RunStop::WriteFault) => Status::WriteFault,
+        Err(RunStop::Limit { node, time }) => Status::Limit { node, time },
         Err(RunStop::NoMemory) => Status::NoMemory,
     }
 }
 
 /// Carries out a command on a scenario.
-fn carry_out<F: TraceStore, O: Sink>(
+fn carry_out<P: Pkt, F: TraceStore, O: Sink>(
     alloc: Global,
     command: Command,
-    reading: &Reading,
+    scenario: &Scenario,
     store: &mut F,
     out: &mut O,
 ) -> Result<(), RunStop>
-    requires limits { IsWithinLimits reading.now.built }
+    requires limits { IsWithinLimits scenario.now }
+    requires built { not_built scenario.now ≡ false }
     requires names { (rest : List ℕ) → F.takes store.old (codes "trace" ++ rest) }
-    ensures files { OnOk result (HasFiles (F.files store.old) (F.files store.new) (files_for command reading.now)) }
-    ensures text { OnOk result (HasGot (O.got out.old) (O.got out.new) (text_for command reading.now)) }
-    ensures file_prefixes { OnErr result (HasFilePrefixes (F.files store.old) (F.files store.new) (files_for command reading.now)) }
-    ensures text_prefix { OnErr result (HasGotPrefix (O.got out.old) (O.got out.new) (text_for command reading.now)) }
+    ensures done { OnOk result ((finished command scenario.now).status ≡ Status.Done) }
+    ensures limit { (node : NodeId) (time : Time) → result ≡ Err (RunStop.Limit node time) → (finished command scenario.now).status ≡ Status.Limit node time }
+    ensures files { IsWhole result → HasFiles (F.files store.old) (F.files store.new) (finished command scenario.now).files }
+    ensures text { IsWhole result → HasGot (O.got out.old) (O.got out.new) (finished command scenario.now).text }
+    ensures file_prefixes { HasFilePrefixes (F.files store.old) (F.files store.new) (finished command scenario.now).files }
+    ensures text_prefix { HasGotPrefix (O.got out.old) (O.got out.new) (finished command scenario.now).text }
     ensures later { (F.faults store.old ≤ F.faults store.new) × (O.faults out.old ≤ O.faults out.new) }
-    ensures cause { IfErr result (λ stop. stop ≡ RunStop.WriteFault → Rose (F.faults store.old) (F.faults store.new) ⊎ Rose (O.faults out.old) (O.faults out.new)) }
+    ensures cause { result ≡ Err RunStop.WriteFault → Rose (F.faults store.old) (F.faults store.new) ⊎ Rose (O.faults out.old) (O.faults out.new) }
 {
     match command {
-        Command::Run => simulate(alloc, &reading.built, store, out),
-        Command::Check => write_sizes(alloc, &reading.whole, out),
+        Command::Run => simulate::<P, F, O>(alloc, scenario, store, out),
+        Command::Check => match write_sizes(alloc, scenario, out) {
+            Ok(()) => Ok(()),
+            Err(stop) => Err(stopped(stop)),
+        },
     }
 }

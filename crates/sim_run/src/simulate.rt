@@ -1,113 +1,134 @@
-//! A run on its way out: the capture file is made, the kernel runs, what was captured is appended, and
+//! A run on its way out: the capture files are made, the kernel runs, its lines go to the files, and
 //! the summary is written last.
 
-ghost use Rattle.std.specs.Prelude.{◌≡◌, ◌<◌, ◌≤◌, ◌⊎◌, ◌∷◌, ◌++◌, [], ℕ, List, codes, OnOk, OnErr, IfOk, IfErr};
+ghost use Rattle.std.specs.Prelude.{◌≡◌, ◌+◌, ◌≤◌, ◌⊎◌, ◌++◌, ◌^◌, ℕ, List, codes, false, length, Err, IfOk, IfErr, OnOk};
 ghost use Rattle.outside.specs.Causes.{Rose};
-ghost use Rattle.path_scenario.specs.Scenario.{IsWithinLimits};
-ghost use Rattle.path_kernel.specs.World.{last_world};
-ghost use Rattle.pcap_form.specs.Capture.{capture_head};
-ghost use Rattle.sim_run.specs.Files.{files_of};
-ghost use Rattle.sim_run.specs.Text.{summary};
+ghost use Rattle.scenario_form.specs.Limits.{IsWithinLimits};
+ghost use Rattle.sim_base.specs.declared.key.NodeId.{NodeId};
+ghost use Rattle.sim_base.specs.declared.time.Time.{Time};
+ghost use Rattle.sim_world.specs.NotBuilt.{not_built};
+ghost use Rattle.sim_world.specs.Opening.{OpensRuns};
+ghost use Rattle.sim_world.specs.World.{world_of};
+ghost use Rattle.plain_kernel.specs.Stop.{HasEnded};
+ghost use Rattle.sim_run.specs.Captures.{run_files};
 ghost use Rattle.sim_run.specs.Output.{HasFiles, HasFilePrefixes, HasGot, HasGotPrefix};
-ghost use Rattle.sim_run.specs.Growth.{HasNewFile};
+ghost use Rattle.sim_run.specs.Plain.{run_status, run_text};
+ghost use Rattle.sim_run.specs.Run.{ending_of, lines_of};
+ghost use Rattle.sim_run.specs.Saving.{Saves};
+ghost use Rattle.sim_run.specs.Stop.{IsWhole};
 
-use crate::files::captured_bytes;
-use crate::output::append_all;
-use crate::stop::{RunStop, stopped, write_text};
+use crate::create::{Opened, open_captures};
+use crate::output::write_all;
+use crate::status::Status;
+use crate::stop::{RunStop, stopped};
 use crate::summary::summary;
-use outside::{Sink, TraceStore};
-use path_kernel::{World, run_scenario};
-use path_scenario::Scenario;
-use pcap_form::write_head;
-use sim_base::{NoMemory, NodeId};
+use crate::trace_files::TraceFiles;
+use outside::{Sink, StoreStop, TraceStore};
+use pkt_face::Pkt;
+use plain_kernel::{KernelStop, Report, run_plain};
+use scenario_form::Scenario;
+use sim_world::World;
 use std::alloc::Global;
 
-/// The link type of PPP.
-const PPP: u32 = 9;
-
 /// Runs a scenario: the files first, and the summary last.
-pub fn simulate<F: TraceStore, O: Sink>(
+pub fn simulate<P: Pkt, F: TraceStore, O: Sink>(
     alloc: Global,
     scenario: &Scenario,
     store: &mut F,
     out: &mut O,
 ) -> Result<(), RunStop>
     requires limits { IsWithinLimits scenario.now }
+    requires built { not_built scenario.now ≡ false }
     requires names { (rest : List ℕ) → F.takes store.old (codes "trace" ++ rest) }
-    ensures files { OnOk result (HasFiles (F.files store.old) (F.files store.new) (files_of (last_world scenario.now))) }
-    ensures text { OnOk result (HasGot (O.got out.old) (O.got out.new) (summary (last_world scenario.now))) }
-    ensures file_prefixes { OnErr result (HasFilePrefixes (F.files store.old) (F.files store.new) (files_of (last_world scenario.now))) }
-    ensures text_prefix { OnErr result (HasGotPrefix (O.got out.old) (O.got out.new) (summary (last_world scenario.now))) }
+    ensures done { OnOk result (run_status (ending_of scenario.now) ≡ Status.Done) }
+    ensures limit { (node : NodeId) (time : Time) → result ≡ Err (RunStop.Limit node time) → run_status (ending_of scenario.now) ≡ Status.Limit node time }
+    ensures files { IsWhole result → HasFiles (F.files store.old) (F.files store.new) (run_files scenario.now (lines_of scenario.now)) }
+    ensures text { IsWhole result → HasGot (O.got out.old) (O.got out.new) (run_text scenario.now (ending_of scenario.now)) }
+    ensures file_prefixes { HasFilePrefixes (F.files store.old) (F.files store.new) (run_files scenario.now (lines_of scenario.now)) }
+    ensures text_prefix { HasGotPrefix (O.got out.old) (O.got out.new) (run_text scenario.now (ending_of scenario.now)) }
     ensures later { (F.faults store.old ≤ F.faults store.new) × (O.faults out.old ≤ O.faults out.new) }
-    ensures cause { IfErr result (λ stop. stop ≡ RunStop.WriteFault → Rose (F.faults store.old) (F.faults store.new) ⊎ Rose (O.faults out.old) (O.faults out.new)) }
+    ensures cause { result ≡ Err RunStop.WriteFault → Rose (F.faults store.old) (F.faults store.new) ⊎ Rose (O.faults out.old) (O.faults out.new) }
 {
-    let world = match write_capture(alloc, scenario, store) {
-        Ok(world) => world,
+    let report = match write_captures::<P, F>(alloc, scenario, store) {
+        Ok(report) => report,
         Err(stop) => return Err(stop),
     };
-    let Ok(text) = summary(alloc, &world) else {
-        return Err(RunStop::NoMemory);
-    };
-    write_text(out, text.as_str())
-}
-
-/// Makes the capture file, runs the scenario, and writes what was captured.
-fn write_capture<F: TraceStore>(
-    alloc: Global,
-    scenario: &Scenario,
-    store: &mut F,
-) -> Result<World, RunStop>
-    requires limits { IsWithinLimits scenario.now }
-    requires names { (rest : List ℕ) → F.takes store.old (codes "trace" ++ rest) }
-    ensures world { IfOk result (λ w. w ≡ last_world scenario.now) }
-    ensures ok { OnOk result (HasFiles (F.files store.old) (F.files store.new) (files_of (last_world scenario.now))) }
-    ensures err { OnErr result (HasFilePrefixes (F.files store.old) (F.files store.new) (files_of (last_world scenario.now))) }
-    ensures later { F.faults store.old ≤ F.faults store.new }
-    ensures cause { IfErr result (λ stop. stop ≡ RunStop.WriteFault → Rose (F.faults store.old) (F.faults store.new)) }
-{
-    let file = match create_capture(alloc, store) {
-        Ok(file) => file,
-        Err(stop) => return Err(stop),
-    };
-    let Ok(world) = run_scenario(alloc, scenario) else {
-        return Err(RunStop::NoMemory);
-    };
-    let Ok(packets) = captured_bytes(alloc, NodeId(0), 0, world.lines()) else {
-        return Err(RunStop::NoMemory);
-    };
-    match append_all(store, file, packets.as_slice()) {
-        Ok(()) => Ok(world),
+    match write_summary(alloc, scenario, &report, out) {
+        Ok(()) => Ok(()),
         Err(stop) => Err(stopped(stop)),
     }
 }
 
-/// Makes the capture file and writes its head.
-fn create_capture<F: TraceStore>(alloc: Global, store: &mut F) -> Result<u64, RunStop>
-    requires { (rest : List ℕ) → F.takes store.old (codes "trace" ++ rest) }
-    ensures known { IfOk result (λ file. file < F.made store.new) }
-    ensures ok { IfOk result (λ file. HasNewFile (F.files store.old) (F.files store.new) file (codes "trace-0-0.pcap") (capture_head PPP)) }
-    ensures err { OnErr result ((rest : List ℕ) → HasFilePrefixes (F.files store.old) (F.files store.new) (record { name = codes "trace-0-0.pcap"; bytes = capture_head PPP ++ rest } ∷ [])) }
+/// Makes the capture files of a scenario, and runs it into them.
+fn write_captures<P: Pkt, F: TraceStore>(
+    alloc: Global,
+    scenario: &Scenario,
+    store: &mut F,
+) -> Result<Report, RunStop>
+    requires limits { IsWithinLimits scenario.now }
+    requires built { not_built scenario.now ≡ false }
+    requires names { (rest : List ℕ) → F.takes store.old (codes "trace" ++ rest) }
+    ensures done { IfOk result (HasEnded (world_of scenario.now)) }
+    ensures limit { (node : NodeId) (time : Time) → result ≡ Err (RunStop.Limit node time) → run_status (ending_of scenario.now) ≡ Status.Limit node time }
+    ensures files { IsWhole result → HasFiles (F.files store.old) (F.files store.new) (run_files scenario.now (lines_of scenario.now)) }
+    ensures file_prefixes { HasFilePrefixes (F.files store.old) (F.files store.new) (run_files scenario.now (lines_of scenario.now)) }
     ensures later { F.faults store.old ≤ F.faults store.new }
-    ensures cause { IfErr result (λ stop. stop ≡ RunStop.WriteFault → Rose (F.faults store.old) (F.faults store.new)) }
+    ensures cause { result ≡ Err RunStop.WriteFault → Rose (F.faults store.old) (F.faults store.new) }
 {
-    let Ok(head) = capture_head(alloc) else {
-        return Err(RunStop::NoMemory);
-    };
-    let file = match store.create("trace-0-0.pcap") {
-        Ok(file) => file,
+    let opened = match open_captures(alloc, scenario, store) {
+        Ok(opened) => opened,
         Err(stop) => return Err(stopped(stop)),
     };
-    match append_all(store, file, head.as_slice()) {
-        Ok(()) => Ok(file),
-        Err(head_stop) => Err(stopped(head_stop)),
+    let Ok(world) = World::<P>::make(alloc, scenario) else {
+        return Err(RunStop::NoMemory);
+    };
+    save_run(alloc, world, opened, store)
+}
+
+/// Runs a world, and puts what is captured behind the heads of the files that were opened.
+fn save_run<P: Pkt, F: TraceStore>(
+    alloc: Global,
+    world: World<P>,
+    opened: Opened,
+    store: &mut F,
+) -> Result<Report, RunStop>
+    requires opens { OpensRuns world }
+    requires stop { world.stop.0 ≤ 10 ^ 12 }
+    requires made { opened.first + length opened.pieces.captures ≤ F.made store.old }
+    requires numbers { opened.first + length opened.pieces.captures ≤ 2 ^ 64 }
+    ensures saves { Saves world opened.pieces.captures opened.first (F.files store.old) (F.files store.new) result }
+    ensures later { F.faults store.old ≤ F.faults store.new }
+    ensures cause { result ≡ Err RunStop.WriteFault → Rose (F.faults store.old) (F.faults store.new) }
+{
+    let Opened { first, mut pieces } = opened;
+    let mut frame = Vec::new(alloc);
+    let mut files = TraceFiles::new(store, first, &mut pieces, &mut frame);
+    match run_plain(world, &mut files) {
+        Ok(report) => Ok(report),
+        Err(KernelStop::Limit { key, node }) => Err(RunStop::Limit {
+            node,
+            time: key.time,
+        }),
+        Err(KernelStop::WriteFault) => Err(RunStop::WriteFault),
+        Err(KernelStop::NoMemory) => Err(RunStop::NoMemory),
     }
 }
 
-/// The head of a capture file.
-fn capture_head(alloc: Global) -> Result<Vec<u8>, NoMemory>
-    ensures { IfOk result (λ head. head.items ≡ capture_head PPP) }
+/// Writes the summary of a run that has come to its end.
+fn write_summary<O: Sink>(
+    alloc: Global,
+    scenario: &Scenario,
+    report: &Report,
+    out: &mut O,
+) -> Result<(), StoreStop>
+    requires { HasEnded (world_of scenario.now) report.now }
+    ensures ok { OnOk result (HasGot (O.got out.old) (O.got out.new) (run_text scenario.now (ending_of scenario.now))) }
+    ensures prefix { HasGotPrefix (O.got out.old) (O.got out.new) (run_text scenario.now (ending_of scenario.now)) }
+    ensures later { O.faults out.old ≤ O.faults out.new }
+    ensures cause { result ≡ Err StoreStop.Failed → Rose (O.faults out.old) (O.faults out.new) }
 {
-    let mut head = Vec::new(alloc);
-    write_head(PPP, &mut head)?;
-    Ok(head)
+    let Ok(text) = summary(alloc, scenario.apps.as_slice(), report) else {
+        return Err(StoreStop::NoMemory);
+    };
+    write_all(out, text.as_bytes())
 }

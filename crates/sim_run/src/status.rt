@@ -2,6 +2,7 @@
 
 use crate::command::WordFault;
 use scenario_form::Refusal;
+use sim_base::{NodeId, Time};
 
 /// How a run of the program ended.
 #[derive(Clone, Copy, Debug, PartialEq, Eq)]
@@ -11,5 +12,7 @@ pub enum Status {
     Scenario(Refusal),
     ReadFault,
     WriteFault,
+    /// At this time the node would have scheduled more events than it may.
+    Limit { node: NodeId, time: Time },
     NoMemory,
 }

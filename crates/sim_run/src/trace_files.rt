@@ -8,12 +8,10 @@ ghost use Rattle.std.specs.Prelude.{◌≡◌, ◌+◌, ◌≤◌, ◌^◌, fals
 ghost use Rattle.outside.specs.Causes.{HasCause};
 ghost use Rattle.sim_run.specs.Pieces.{HasGrownByFronts, HasGrownFrom};
 
-use crate::create::Opened;
 use crate::output::append_all;
 use crate::pieces::Pieces;
 use outside::{StoreStop, TraceStore};
 use pkt_face::{Line, Pkt};
-use std::alloc::Global;
 use trace_merge::LineOut;
 
 /// Puts each piece behind its file, the first of which has this number.
@@ -44,8 +42,8 @@ pub fn append_pieces<F: TraceStore>(
 pub struct TraceFiles<'a, F: TraceStore> {
     pub store: &'a mut F,
     pub first: u64,
-    pub pieces: Pieces,
-    pub frame: Vec<u8>,
+    pub pieces: &'a mut Pieces,
+    pub frame: &'a mut Vec<u8>,
     pub failed: bool,
 }
 
@@ -53,21 +51,25 @@ impl<'a, F: TraceStore> TraceFiles<'a, F> {
     ghost use Rattle.sim_run.specs.Pieces.{takes_no_more};
 
     /// Over the files that were opened in this store.
-    pub fn new(alloc: Global, store: &'a mut F, opened: Opened) -> TraceFiles<'a, F>
-        requires made { opened.first + length opened.pieces.captures ≤ F.made store.old }
-        requires numbers { opened.first + length opened.pieces.captures ≤ 2 ^ 64 }
+    pub fn new(
+        store: &'a mut F,
+        first: u64,
+        pieces: &'a mut Pieces,
+        frame: &'a mut Vec<u8>,
+    ) -> TraceFiles<'a, F>
+        requires made { first + length pieces.old.captures ≤ F.made store.old }
+        requires numbers { first + length pieces.old.captures ≤ 2 ^ 64 }
         ensures same_reference { result.store.ghost_name ≡ store.entry.ghost_name }
         ensures store { result.store.now ≡ store.old }
-        ensures first { result.first ≡ opened.first }
-        ensures captures { result.pieces.captures ≡ opened.pieces.captures }
-        ensures going { takes_no_more result.failed result.first (length result.pieces.captures) (F.made result.store.now) ≡ false }
+        ensures first { result.first ≡ first }
+        ensures captures { result.pieces.now.captures ≡ pieces.old.captures }
+        ensures going { takes_no_more result.failed result.first (length result.pieces.now.captures) (F.made result.store.now) ≡ false }
     {
-        let Opened { first, pieces } = opened;
         TraceFiles {
             store,
             first,
             pieces,
-            frame: Vec::new(alloc),
+            frame,
             failed: false,
         }
     }
@@ -80,15 +82,15 @@ impl<'a, F: TraceStore, P: Pkt> LineOut<P> for TraceFiles<'a, F> {
 
     ghost Making = { Made };
 
-    ghost made_with = { λ s. record { store = s.store.ghost_name; first = s.first; captures = s.pieces.captures } };
+    ghost made_with = { λ s. record { store = s.store.ghost_name; first = s.first; captures = s.pieces.now.captures } };
 
-    ghost has_failed = { λ s. takes_no_more s.failed s.first (length s.pieces.captures) (F.made s.store.now) };
+    ghost has_failed = { λ s. takes_no_more s.failed s.first (length s.pieces.now.captures) (F.made s.store.now) };
 
-    ghost HasPut = { λ start s lines. HaveSaved s.failed s.pieces.captures s.first (F.files start.store.now) (F.files s.store.now) lines };
+    ghost HasPut = { λ start s lines. HaveSaved s.failed s.pieces.now.captures s.first (F.files start.store.now) (F.files s.store.now) lines };
 
     ghost faults = { λ s. F.faults s.store.now };
 
-    ghost begins = { λ s. saved-none s.failed s.pieces.captures s.first (F.files s.store.now) };
+    ghost begins = { λ s. saved-none s.failed s.pieces.now.captures s.first (F.files s.store.now) };
 
     fn put(&mut self, lines: &[Line<P>]) -> Result<(), StoreStop> {
         self.failed = true;
@@ -106,7 +108,7 @@ impl<'a, F: TraceStore, P: Pkt> LineOut<P> for TraceFiles<'a, F> {
                 return Err(StoreStop::NoMemory);
             };
         }
-        append_pieces(self.store, self.first, &self.pieces)?;
+        append_pieces(self.store, self.first, self.pieces)?;
         self.failed = false;
         Ok(())
     }

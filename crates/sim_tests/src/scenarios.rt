@@ -27,11 +27,11 @@ interval_ns = 1000000
 size = 70
 ";
 
-/// A client and a server of echoes, which a run can't simulate yet.
+/// A client sends one datagram over a link, and a server sends it back.
 pub const ECHO: &str = "format = 1
 nodes = 2
 stop_ns = 10000000000
-ascii = true
+ascii = false
 [[link]]
 a = 0
 b = 1
@@ -53,4 +53,80 @@ start_ns = 2000000000
 count = 1
 interval_ns = 1000000000
 size = 1024
+";
+
+/// The router on node 1 has no route to where node 0 sends.
+pub const NO_ROUTE: &str = "format = 1
+nodes = 3
+stop_ns = 60000000000
+[[link]]
+a = 0
+b = 1
+a_addr = \"10.1.1.1\"
+b_addr = \"10.1.1.2\"
+rate_bps = 1000000
+delay_ns = 1000000
+pcap = true
+[[link]]
+a = 1
+b = 2
+a_addr = \"10.1.2.1\"
+b_addr = \"10.1.2.2\"
+rate_bps = 1000000
+delay_ns = 1000000
+[[route]]
+node = 0
+dest = \"10.9.0.0\"
+prefix = 16
+via = \"10.1.1.2\"
+[[app]]
+kind = \"udp-send\"
+node = 0
+dst = \"10.9.0.1\"
+port = 9
+start_ns = 0
+count = 1
+interval_ns = 1000000000
+size = 100
+";
+
+/// Both nodes of a link send to each other, and each may schedule five events.
+pub const FIVE_EVENTS: &str = "format = 1
+nodes = 2
+stop_ns = 60000000000
+events_per_node = 5
+[[link]]
+a = 0
+b = 1
+a_addr = \"10.1.1.1\"
+b_addr = \"10.1.1.2\"
+rate_bps = 8000000
+delay_ns = 1000000
+pcap = true
+[[app]]
+kind = \"udp-sink\"
+node = 0
+port = 9
+[[app]]
+kind = \"udp-sink\"
+node = 1
+port = 9
+[[app]]
+kind = \"udp-send\"
+node = 0
+dst = \"10.1.1.2\"
+port = 9
+start_ns = 0
+count = 10
+interval_ns = 1000000
+size = 70
+[[app]]
+kind = \"udp-send\"
+node = 1
+dst = \"10.1.1.1\"
+port = 9
+start_ns = 500000
+count = 10
+interval_ns = 1000000
+size = 70
 ";

@@ -1,16 +1,38 @@
 //! Runs of the whole program over memory. The expected bytes are worked by hand.
 
-use crate::scenarios::{ECHO, TWO_DATAGRAMS};
+use crate::scenarios::{ECHO, FIVE_EVENTS, NO_ROUTE, TWO_DATAGRAMS};
 use outside::{MemSink, MemSource, MemStore};
+use pkt_face::PlainPkt;
+use sim_base::{NodeId, Time};
 use sim_run::{Code, Place, Refusal, Status, WordCode, WordFault, run_program};
 use std::alloc::Global;
 use std::process::Abort;
 
-/// What the sink gets.
-const SUMMARY: &str = "events 6
+/// What the sink gets of the two datagrams.
+const TWO_DATAGRAMS_SUMMARY: &str = "events 6
 drops 0
 app 0 udp-sink sent 0 0 received 2 140
 app 1 udp-send sent 2 140 received 0 0
+";
+
+/// What the sink gets of the echo.
+const ECHO_SUMMARY: &str = "events 5
+drops 0
+app 0 udp-echo-server sent 1 1024 received 1 1024
+app 1 udp-echo-client sent 1 1024 received 1 1024
+";
+
+/// What the sink gets of the echo that is stopped at once.
+const NO_ECHO_SUMMARY: &str = "events 0
+drops 0
+app 0 udp-echo-server sent 0 0 received 0 0
+app 1 udp-echo-client sent 0 0 received 0 0
+";
+
+/// What the sink gets of the datagram without a route.
+const NO_ROUTE_SUMMARY: &str = "events 5
+drops 1
+app 0 udp-send sent 1 100 received 0 0
 ";
 
 /// What the sink gets of a check.
@@ -30,6 +52,21 @@ const FIRST_FRAME: [u8; 30] = [
     0x00, 0x21, 0x45, 0x00, 0x00, 0x62, 0x00, 0x00, 0x00, 0x00, 0x40, 0x11, 0x64, 0x87, 0x0a, 0x01,
     0x01, 0x01, 0x0a, 0x01, 0x01, 0x02, 0xc0, 0x01, 0x00, 0x09, 0x00, 0x4e, 0x29, 0x43,
 ];
+
+/// The head of the packet of 1054 bytes that is captured at 2 s.
+const ECHO_HEAD: [u8; 16] = [2, 0, 0, 0, 0, 0, 0, 0, 0x1e, 4, 0, 0, 0x1e, 4, 0, 0];
+
+/// The head of its echo, which is captured at 2.0073728 s.
+const ECHOED_HEAD: [u8; 16] = [2, 0, 0, 0, 0, 0x80, 0x70, 0, 0x1e, 4, 0, 0, 0x1e, 4, 0, 0];
+
+/// The PPP, IPv4 and UDP headers of the datagram to the echo server.
+const ECHO_FRAME: [u8; 30] = [
+    0x00, 0x21, 0x45, 0x00, 0x04, 0x1c, 0x00, 0x00, 0x00, 0x00, 0x40, 0x11, 0x60, 0xcd, 0x0a, 0x01,
+    0x01, 0x01, 0x0a, 0x01, 0x01, 0x02, 0xc0, 0x01, 0x00, 0x09, 0x04, 0x08, 0x21, 0xcf,
+];
+
+/// The head of the packet that is captured at 0.0005 s.
+const LATER_HEAD: [u8; 16] = [0, 0, 0, 0, 0x20, 0xa1, 7, 0, 0x64, 0, 0, 0, 0x64, 0, 0, 0];
 
 /// The head of a capture file of a link.
 const FILE_HEAD: [u8; 24] = [
@@ -56,7 +93,13 @@ fn run(
     let mut store = MemStore::make(alloc, writes).expect(rt, "memory");
     let mut sink = MemSink::make(alloc, &[]).expect(rt, "memory");
     assert!(rt; texts.len() <= 1000);
-    let status = run_program(alloc, texts.as_slice(), &mut source, &mut store, &mut sink);
+    let status = run_program::<PlainPkt, _, _, _>(
+        alloc,
+        texts.as_slice(),
+        &mut source,
+        &mut store,
+        &mut sink,
+    );
     assert_eq!(rt; status, expected);
     (store, sink)
 }
@@ -87,11 +130,45 @@ fn assert_no_scenario(
     assert!(rt; store.files().is_empty());
 }
 
+/// Asserts what a run with these words answers and leaves: the sizes of its files, and its text. Gives back the store.
+fn assert_run(
+    rt: &impl Abort,
+    alloc: Global,
+    words: &[&str],
+    input: &str,
+    failing_writes: &[u32],
+    expected: Status,
+    sizes: &[usize],
+    text: &str,
+) -> MemStore {
+    let failing = ([].as_slice(), failing_writes);
+    let (store, sink) = run(rt, alloc, words, input.as_bytes(), failing, expected);
+    assert_eq!(rt; store.files().len(), sizes.len());
+    for (file, size) in store.files().iter().zip(sizes) {
+        assert_eq!(rt; file.bytes.len(), *size);
+    }
+    assert!(rt; sink.bytes() == text.as_bytes());
+    store
+}
+
+/// A scenario with one part replaced.
+fn changed(rt: &impl Abort, alloc: Global, scenario: &str, old: &str, new: &str) -> String {
+    scenario.replace(alloc, old, new).expect(rt, "memory")
+}
+
 #[test]
 fn two_datagrams_are_captured_and_counted(rt: HostRuntime) {
-    let input = TWO_DATAGRAMS.as_bytes();
-    let (store, sink) = run(&rt, rt.alloc(), &["run"], input, (&[], &[]), Status::Done);
-    assert!(rt; store.files().len() == 1);
+    let store = assert_run(
+        &rt,
+        rt.alloc(),
+        &["run"],
+        TWO_DATAGRAMS,
+        &[],
+        Status::Done,
+        &[256, 256],
+        TWO_DATAGRAMS_SUMMARY,
+    );
+    assert!(rt; store.files().len() == 2);
     let file = &store.files()[0];
     assert!(rt; file.name.as_slice() == b"trace-0-0.pcap".as_slice());
     let bytes = file.bytes.as_slice();
@@ -102,32 +179,115 @@ fn two_datagrams_are_captured_and_counted(rt: HostRuntime) {
     assert!(rt; bytes[70..140].iter().all(|b| *b == 0));
     assert!(rt; bytes.get(140..156) == Some(SECOND_HEAD.as_slice()));
     assert!(rt; bytes[163] == 1 && bytes[168] == 0x64 && bytes[169] == 0x86);
-    assert!(rt; sink.bytes() == SUMMARY.as_bytes());
+}
+
+#[test]
+fn an_echo_is_captured_at_both_ends(rt: HostRuntime) {
+    let store = assert_run(
+        &rt,
+        rt.alloc(),
+        &["run"],
+        ECHO,
+        &[],
+        Status::Done,
+        &[2164, 2164],
+        ECHO_SUMMARY,
+    );
+    assert!(rt; store.files().len() == 2);
+    let file = &store.files()[0];
+    assert!(rt; file.name.as_slice() == b"trace-0-0.pcap".as_slice());
+    let bytes = file.bytes.as_slice();
+    assert!(rt; bytes.len() == 2164);
+    assert!(rt; bytes.get(24..40) == Some(ECHO_HEAD.as_slice()));
+    assert!(rt; bytes.get(40..70) == Some(ECHO_FRAME.as_slice()));
+    assert!(rt; bytes[70..1094].iter().all(|b| *b == 0));
+    assert!(rt; bytes.get(1094..1110) == Some(ECHOED_HEAD.as_slice()));
+    assert!(rt; store.files()[1].name.as_slice() == b"trace-1-0.pcap".as_slice());
+}
+
+#[test]
+fn a_run_that_stops_at_once_fires_nothing(rt: HostRuntime) {
+    let input = changed(
+        &rt,
+        rt.alloc(),
+        ECHO,
+        "stop_ns = 10000000000",
+        "stop_ns = 0",
+    );
+    let store = assert_run(
+        &rt,
+        rt.alloc(),
+        &["run"],
+        input.as_str(),
+        &[],
+        Status::Done,
+        &[24, 24],
+        NO_ECHO_SUMMARY,
+    );
+    assert!(rt; store.files().len() == 2);
+    assert!(rt; store.files()[1].bytes.as_slice() == FILE_HEAD.as_slice());
+}
+
+/// The datagram's frame has 130 bytes, and the report's 58.
+#[test]
+fn a_router_without_a_route_reports_it(rt: HostRuntime) {
+    assert_run(
+        &rt,
+        rt.alloc(),
+        &["run"],
+        NO_ROUTE,
+        &[],
+        Status::Done,
+        &[244, 244],
+        NO_ROUTE_SUMMARY,
+    );
+}
+
+#[test]
+fn a_run_ends_where_a_node_may_schedule_no_more(rt: HostRuntime) {
+    let limit = Status::Limit {
+        node: NodeId(0),
+        time: Time(1_000_000),
+    };
+    let sizes = [140, 140];
+    let store = assert_run(
+        &rt,
+        rt.alloc(),
+        &["run"],
+        FIVE_EVENTS,
+        &[],
+        limit,
+        &sizes,
+        "",
+    );
+    assert!(rt; store.files().len() == 2);
+    let first = store.files()[0].bytes.as_slice();
+    let second = store.files()[1].bytes.as_slice();
+    assert!(rt; first.get(24..40) == Some(FIRST_HEAD.as_slice()));
+    assert!(rt; second.get(24..40) == Some(LATER_HEAD.as_slice()));
 }
 
 #[test]
 fn a_check_writes_the_sizes_of_a_scenario(rt: HostRuntime) {
-    let input = TWO_DATAGRAMS.as_bytes();
-    let (store, sink) = run(&rt, rt.alloc(), &["check"], input, (&[], &[]), Status::Done);
-    assert!(rt; store.files().is_empty());
-    assert!(rt; sink.bytes() == SIZES.as_bytes());
+    let done = Status::Done;
+    assert_run(&rt, rt.alloc(), &["check"], ECHO, &[], done, &[], SIZES);
 }
 
+/// Two calls make the files, two put their heads, and two the packets.
 #[test]
-fn a_failed_append_leaves_the_head_and_no_summary(rt: HostRuntime) {
-    let input = TWO_DATAGRAMS.as_bytes();
-    let failing = ([].as_slice(), [3].as_slice());
-    let (store, sink) = run(
+fn a_failed_append_leaves_what_was_put_and_no_summary(rt: HostRuntime) {
+    let fault = Status::WriteFault;
+    assert_run(
         &rt,
         rt.alloc(),
         &["run"],
-        input,
-        failing,
-        Status::WriteFault,
+        ECHO,
+        &[6],
+        fault,
+        &[2164, 24],
+        "",
     );
-    assert!(rt; store.files().len() == 1);
-    assert!(rt; store.files()[0].bytes.as_slice() == FILE_HEAD.as_slice());
-    assert!(rt; sink.bytes().is_empty());
+    assert_run(&rt, rt.alloc(), &["run"], ECHO, &[3], fault, &[0, 0], "");
 }
 
 #[test]
@@ -139,17 +299,23 @@ fn a_failed_read_makes_no_file(rt: HostRuntime) {
 }
 
 #[test]
-fn an_echo_server_is_not_built_yet(rt: HostRuntime) {
-    let input = ECHO.as_bytes();
-    assert_no_scenario(&rt, rt.alloc(), "run", input, Refusal::NotBuilt);
-    assert_no_scenario(&rt, rt.alloc(), "check", input, Refusal::NotBuilt);
+fn a_text_trace_is_not_built_yet(rt: HostRuntime) {
+    let input = changed(&rt, rt.alloc(), ECHO, "ascii = false", "ascii = true");
+    let bytes = input.as_bytes();
+    assert_no_scenario(&rt, rt.alloc(), "run", bytes, Refusal::NotBuilt);
+    assert_no_scenario(&rt, rt.alloc(), "check", bytes, Refusal::NotBuilt);
 }
 
 #[test]
-fn a_refusal_of_the_language_comes_before_one_of_the_form(rt: HostRuntime) {
-    let input = ECHO
-        .replace(rt.alloc(), "rate_bps = 5000000", "rate_bps = 5000000.0")
-        .expect(&rt, "memory");
+fn a_refusal_of_the_language_comes_before_not_built(rt: HostRuntime) {
+    let traced = changed(&rt, rt.alloc(), ECHO, "ascii = false", "ascii = true");
+    let input = changed(
+        &rt,
+        rt.alloc(),
+        traced.as_str(),
+        "rate_bps = 5000000",
+        "rate_bps = 5000000.0",
+    );
     let place = Place {
         section: 1,
         index: 0,

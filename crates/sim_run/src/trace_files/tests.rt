@@ -3,7 +3,7 @@
 ghost use Rattle.trace_merge.specs.Lines.{IsInTime};
 
 use super::TraceFiles;
-use crate::create::open_captures;
+use crate::create::{Opened, open_captures};
 use outside::{MemStore, StoreStop};
 use pkt_face::{Line, Pkt, PlainPkt, Sign};
 use scenario_form::read_scenario;
@@ -64,8 +64,10 @@ fn put_lines(rt: &impl Abort, alloc: Global, fail: &[u32]) -> (MemStore, Result<
     let saved = line(rt, alloc, 1, 1, Sign::Save, &[0x00, 0x21, 0x45]);
     let taken = line(rt, alloc, 0, 0, Sign::Dequeue, &[0x00, 0x21]);
     let also_saved = line(rt, alloc, 0, 0, Sign::Save, &[0x00, 0x21]);
+    let Opened { first, mut pieces } = opened;
+    let mut frame = Vec::new(alloc);
     let put = {
-        let mut files = TraceFiles::new(alloc, &mut store, opened);
+        let mut files = TraceFiles::new(&mut store, first, &mut pieces, &mut frame);
         files.put(&[saved, taken, also_saved])
     };
     (store, put)

@@ -1,6 +1,6 @@
 use Rattle.std.proofs.Common.{length, codes, append_assoc}
 use Rattle.std.specs.Fmt.{decimal}
-use Rattle.sim_run.specs.Text.{sizes_line}
+use Rattle.sim_run.specs.Sizes.{sizes_line}
 use Rattle.sim_run.proofs.Joined.{last_joined}
 use Rattle.sim_run.proofs.sizes.sizes_line.Goals as goal
 

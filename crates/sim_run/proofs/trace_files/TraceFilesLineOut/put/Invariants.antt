@@ -8,6 +8,6 @@ invariant-loop-line g l = record {
   failed : l.self.failed ≡ true;
   store : l.self.store ≡ l.fn.self.store;
   first : l.self.first ≡ l.fn.self.first;
-  captures : l.self.pieces.captures ≡ l.fn.self.pieces.captures;
-  pieces : l.self.pieces.pieces ≡ saved_pieces l.fn.self.pieces.captures (map (plain_line g.P.Pkt.plain) (take l.line-index l.lines));
+  captures : l.self.pieces.now.captures ≡ l.fn.self.pieces.now.captures;
+  pieces : l.self.pieces.now.pieces ≡ saved_pieces l.fn.self.pieces.now.captures (map (plain_line g.P.Pkt.plain) (take l.line-index l.lines));
 }

@@ -1,4 +1,0 @@
-pub mod Checksums
-pub mod Fires
-pub mod Runs
-pub mod Calm

@@ -1,6 +1,0 @@
-pub mod Frames
-pub mod Nodes
-pub mod World
-pub mod Firing
-pub mod Lines
-pub mod Kernel
