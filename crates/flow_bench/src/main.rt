@@ -1,4 +1,4 @@
-//! Times a transfer over one pair of connections with packets and checksums: `flow_bench BYTES EVERY` carries BYTES bytes
+//! Times a transfer between the connections of two nodes, with packets and checksums: `flow_bench BYTES EVERY` carries BYTES bytes
 //! while every packet of the opener whose number is a multiple of EVERY is lost, and writes how many bytes and packets
 //! went, and whether what was delivered is what was written.
 #![tactic(auto)]

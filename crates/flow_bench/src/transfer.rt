@@ -1,35 +1,24 @@
-//! A transfer over one pair of connections: whatever comes next in time happens, until nothing is left to happen.
+//! A transfer between two nodes: whatever comes next in time happens, until nothing is left to happen.
 
 ghost use Rattle.std.specs.Prelude.{◌≤◌, ◌^◌, OnOk, IfOk, IfSome};
-ghost use Rattle.tcp_conn.specs.Fits.{Fits};
+ghost use Rattle.tcp_flow.specs.Table.{AllFit};
 
 use crate::digest::digest_of;
-use crate::host::{Host, no_numbers};
-use crate::way::{DELAY, Way};
+use crate::host::Host;
+use crate::way::Way;
 use sim_base::{NoMemory, Time};
 use std::alloc::Global;
-use tcp_flow::Conn;
 use tcp_wire::SocketPair;
-
-/// The opener's greatest segment size.
-const MSS: u32 = 536;
 
 /// No transfer goes on for longer, in nanoseconds.
 const END: u64 = 1 << 59;
 
-/// The opener's side and the sink's.
-const OPENER: SocketPair = SocketPair {
+/// The opener's address and port, and the sink's.
+const PAIR: SocketPair = SocketPair {
     addr: 0x0a01_0101,
     port: 49153,
     other_addr: 0x0a01_0102,
     other_port: 80,
-};
-
-const SINK: SocketPair = SocketPair {
-    addr: 0x0a01_0102,
-    port: 80,
-    other_addr: 0x0a01_0101,
-    other_port: 49153,
 };
 
 /// What became of a transfer.
@@ -55,9 +44,8 @@ enum Next {
 pub fn run(alloc: Global, bytes: u64, every: u64) -> Result<Report, NoMemory> {
     let mut to_sink = Way::new(alloc, every);
     let mut to_opener = Way::new(alloc, 0);
-    let mut opener = open(alloc, bytes, &mut to_sink)?;
-    let _syn = to_sink.take();
-    let mut sink = accept(alloc, &mut to_opener)?;
+    let mut sink = listen(alloc)?;
+    let mut opener = connect(alloc, bytes, &mut to_sink)?;
     'events: for _ in 0..u64::MAX {
         let Some((now, next)) = first_of_all(&opener, &sink, &to_sink, &to_opener) else {
             break;
@@ -80,44 +68,19 @@ pub fn run(alloc: Global, bytes: u64, every: u64) -> Result<Report, NoMemory> {
     })
 }
 
-fn open(alloc: Global, bytes: u64, to_sink: &mut Way) -> Result<Host, NoMemory>
-    ensures { IfOk result (λ host. Fits host.conn.connection) }
+fn listen(alloc: Global) -> Result<Host, NoMemory>
+    ensures { IfOk result (λ host. AllFit host.conns.conns) }
 {
-    let mut acts = Vec::new(alloc);
-    let mut numbers = no_numbers(0);
-    let conn = Conn::open(
-        alloc,
-        Time(0),
-        0,
-        0,
-        OPENER,
-        MSS,
-        &mut (),
-        &mut numbers,
-        &mut acts,
-    )?;
-    let mut host = Host::new(conn, numbers, bytes);
-    host.follow(alloc, Time(0), acts, to_sink)?;
+    let mut host = Host::new(alloc, 1, 0);
+    host.listen(alloc, PAIR.other_port)?;
     Ok(host)
 }
 
-fn accept(alloc: Global, to_opener: &mut Way) -> Result<Host, NoMemory>
-    ensures { IfOk result (λ host. Fits host.conn.connection) }
+fn connect(alloc: Global, bytes: u64, to_sink: &mut Way) -> Result<Host, NoMemory>
+    ensures { IfOk result (λ host. AllFit host.conns.conns) }
 {
-    let mut acts = Vec::new(alloc);
-    let mut numbers = no_numbers(1);
-    let conn = Conn::accept(
-        alloc,
-        Time(DELAY),
-        0,
-        0,
-        SINK,
-        &mut (),
-        &mut numbers,
-        &mut acts,
-    )?;
-    let mut host = Host::new(conn, numbers, 0);
-    host.follow(alloc, Time(DELAY), acts, to_opener)?;
+    let mut host = Host::new(alloc, 0, bytes);
+    host.connect(alloc, PAIR, to_sink)?;
     Ok(host)
 }
 
@@ -132,10 +95,10 @@ fn happen(
     to_opener: &mut Way,
 ) -> Result<(), NoMemory>
     requires time { now.0 ≤ 2 ^ 59 }
-    requires opener { Fits opener.old.conn.connection }
-    requires sink { Fits sink.old.conn.connection }
-    ensures opener { OnOk result (Fits opener.new.conn.connection) }
-    ensures sink { OnOk result (Fits sink.new.conn.connection) }
+    requires opener { AllFit opener.old.conns.conns }
+    requires sink { AllFit sink.old.conns.conns }
+    ensures opener { OnOk result (AllFit opener.new.conns.conns) }
+    ensures sink { OnOk result (AllFit sink.new.conns.conns) }
 {
     match next {
         Next::AtSink => sink.hear(alloc, now, to_sink, to_opener),
@@ -160,19 +123,10 @@ fn first_of_all(opener: &Host, sink: &Host, to_sink: &Way, to_opener: &Way) -> O
 {
     let mut first = to_sink.next_at().map(|at| (at, Next::AtSink));
     first = earlier(first, to_opener.next_at().map(|at| (at, Next::AtOpener)));
-    first = earlier(first, running(opener, Next::OpenerTimer));
-    first = earlier(first, running(sink, Next::SinkTimer));
+    first = earlier(first, opener.timer_at().map(|at| (at, Next::OpenerTimer)));
+    first = earlier(first, sink.timer_at().map(|at| (at, Next::SinkTimer)));
     match first {
         Some((at, next)) if at.0 <= END => Some((at, next)),
         _ => None,
-    }
-}
-
-/// When the timer of a connection fires, if it runs.
-fn running(host: &Host, next: Next) -> Option<(Time, Next)> {
-    if host.conn.connection.timer {
-        Some((host.timer, next))
-    } else {
-        None
     }
 }

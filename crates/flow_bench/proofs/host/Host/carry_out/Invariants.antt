@@ -5,4 +5,4 @@ abbrev pub invariant-loop-act : goal.invariant-loop-act
 invariant-loop-act l =
     (goal.iterator-loop-act).can_next l.act-iterator
     × (goal.iterator-loop-act).is_finite l.act-iterator
-    × (l.self.conn ≡ l.initial.self.conn)
+    × (l.self.conns ≡ l.initial.self.conns)
