@@ -62,7 +62,7 @@ record IsRead (s : Seg Packet) : Type 0 where
 
 -- what a step asks for, done, is the step
 
-all_done-connection : (k : Conn) (n : Numbers) (es : List Effect) → (all_done k n es).conn.connection ≡ k.connection
+pub all_done-connection : (k : Conn) (n : Numbers) (es : List Effect) → (all_done k n es).conn.connection ≡ k.connection
 all_done-connection k n [] = refl
 all_done-connection k n (Emit o ∷ es) = all_done-connection (done k n (Emit o)).conn (done k n (Emit o)).numbers es
 all_done-connection k n (TimerAt at ∷ es) = all_done-connection (done k n (TimerAt at)).conn (done k n (TimerAt at)).numbers es

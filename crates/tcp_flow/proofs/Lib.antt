@@ -5,3 +5,5 @@ pub mod Lookups
 pub mod Adding
 pub mod Changing
 pub mod Exchanges
+pub mod Timers
+pub mod LaterTimers

@@ -3,6 +3,7 @@ pub mod Conns
 pub mod Exchange
 pub mod Held
 pub mod Index
+pub mod Later
 pub mod Seen
 pub mod Small
 pub mod Stray

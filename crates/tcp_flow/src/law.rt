@@ -1,8 +1,13 @@
-//! The law of the delivered prefix, over packets.
+//! The law of the delivered prefix, over packets, and that time goes on.
 
-ghost use Rattle.std.specs.Prelude.{◌≡◌, ℕ, List, true};
+ghost use Rattle.std.specs.Prelude.{◌≡◌, ℕ, List, true, All};
+ghost use Rattle.sim_base.specs.declared.numbers.Numbers.{Numbers};
+ghost use Rattle.sim_base.specs.Packet.{Packet};
 ghost use Rattle.tcp_stream.specs.History.{IsPrefixOf, delivered, has_end};
+ghost use Rattle.tcp_flow.specs.declared.words.In.{In};
+ghost use Rattle.tcp_flow.specs.Conns.{PlainConns, step};
 ghost use Rattle.tcp_flow.specs.Exchange.{Happening, IsOpening, Opening, WritesBytes, opened, run};
+ghost use Rattle.tcp_flow.specs.Later.{AllWait, IsLater, time_of};
 
 /// Whatever happens to an opener, and whichever of its packets come to the sink, how often and in which order: what the
 /// sink hands to its application is a prefix of what the opener's writes have taken, and it tells the end only after the
@@ -17,3 +22,9 @@ pub fn deliveries_of_packets_are_a_prefix()
     tcp_conn::deliveries_are_a_prefix();
     tcp_wire::segments_are_read_as_written();
 }
+
+/// Every timer that connections ask for fires later than now, and their waits stay long enough for it.
+pub fn timers_come_later()
+    ensures later { (t : PlainConns) (n : Numbers) (input : In Packet) → AllWait t.conns → All (IsLater (time_of input)) (step t n input).acts }
+    ensures waits { (t : PlainConns) (n : Numbers) (input : In Packet) → AllWait t.conns → AllWait (step t n input).state.conns }
+{}
