@@ -77,6 +77,16 @@ impl<P: Pkt> Load<P> {
         Ok(packet.len())
     }
 
+    pub fn saved(&mut self, times: u32) -> Result<u32, NoMemory> {
+        let mut packet = self.datagram()?;
+        let mut bytes = 0;
+        for _ in 0..times {
+            forward(&mut self.maker, &mut packet)?;
+            bytes = packet.copy(&mut self.maker)?.len();
+        }
+        Ok(bytes)
+    }
+
     // A frame of 1,054 bytes.
     #[tactic(auto, using(sim_base::proofs::PacketLaws::lengths))]
     fn datagram(&mut self) -> Result<P, NoMemory> {

@@ -1,7 +1,8 @@
 //! Times packets: `packet_bench PACKET WHAT TIMES`, where PACKET is `plain` or `shared`, makes TIMES times
 //! what WHAT says and writes how many bytes the packets had in the end. WHAT is `make` (a packet of 1,024
 //! zeros), `push` (the same, and a first header of 8 bytes in front), `bytes` (a packet of 1,024 bytes),
-//! `copy` (a copy and its drop) or `hop` (the headers of link and IPv4 taken off, and new ones put in front).
+//! `copy` (a copy and its drop), `hop` (the headers of link and IPv4 taken off, and new ones put in front) or
+//! `saved` (the same, and a copy and its drop, as where each frame is saved to a capture).
 #![tactic(auto)]
 
 mod loads;
@@ -37,6 +38,7 @@ fn run<P: Pkt>(alloc: Global, what: &str, times: u32) -> Result<u32> {
         "bytes" => load.bytes(times),
         "copy" => load.copy(times),
         "hop" => load.hop(times),
+        "saved" => load.saved(times),
         _ => bail!("no such load"),
     };
     Ok(bytes.map_err(|_| AllocError)?)
