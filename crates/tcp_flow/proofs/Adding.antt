@@ -37,7 +37,7 @@ some_and (Some k) P h = (k, refl, h)
 
 -- which number is the least
 
-any_low : (ks : List ℕ) → AllByRecursion (λ q. 0 ≤ q) ks
+pub any_low : (ks : List ℕ) → AllByRecursion (λ q. 0 ≤ q) ks
 any_low [] = tt
 any_low (k ∷ ks) = (omega arith, any_low ks)
 

@@ -19,7 +19,7 @@ use Rattle.tcp_flow.specs.Table.{under, same_pair, between, least_free}
 use Rattle.tcp_flow.specs.Index.{IsIndexed, InOrder}
 use Rattle.tcp_flow.proofs.Indexing.{at_itself, at_same, pair_itself, pair_same, by_cases}
 
-by_option : {A P : Type 0} → (o : Option A) → (o ≡ None → P) → ((x : A) → o ≡ Some x → P) → P
+pub by_option : {A P : Type 0} → (o : Option A) → (o ≡ None → P) → ((x : A) → o ≡ Some x → P) → P
 by_option None n s = n refl
 by_option (Some x) n s = s x refl
 

@@ -4,6 +4,7 @@ ghost use Rattle.std.specs.Prelude.{◌≡◌, ◌≤◌, ◌<◌, ◌^◌, [], 
 ghost use Rattle.sim_base.specs.Packet.{len};
 ghost use Rattle.layer_words.specs.Acts.{Appends};
 ghost use Rattle.tcp_wire.specs.Segment.{arrived};
+ghost use Rattle.tcp_flow.specs.Index.{InOrder};
 ghost use Rattle.tcp_flow.specs.Seen.{plain_act, plain_in};
 ghost use Rattle.tcp_flow.specs.Small.{CanHappen, CanTake};
 ghost use Rattle.tcp_flow.specs.Stray.{answering};
@@ -56,6 +57,13 @@ impl Conns {
         }
     }
 
+    /// Its connections are in the order of their numbers, each of which is there once.
+    pub fn is_in_order(&self)
+        ensures { InOrder self.now.conns }
+    {
+        self.table.is_in_order();
+    }
+
     /// Takes an input, with the node's numbers, and puts the acts that follow behind `out`. After `NoMemory` all are given
     /// up.
     pub fn step<P: Pkt>(
@@ -105,7 +113,7 @@ impl Conns {
             In::Write { now, app, bytes } => {
                 self.ask(now, app, &Event::Write { bytes }, maker, numbers, out)
             }
-            In::Close { now, app } => { self.ask(now, app, &Event::Close, maker, numbers, out) }
+            In::Close { now, app } => self.ask(now, app, &Event::Close, maker, numbers, out),
         }
     }
 

@@ -11,6 +11,7 @@ ghost use Rattle.std.specs.Map.{remove_entry};
 ghost use Rattle.std.specs.Ordering.{nat_cmp};
 ghost use Rattle.layer_words.specs.Acts.{Appends};
 ghost use Rattle.tcp_flow.specs.Table.{AllFit, between, happens, has_stamp, is_opener_of, least_free, under};
+ghost use Rattle.tcp_flow.specs.Index.{InOrder};
 ghost use Rattle.tcp_flow.specs.Seen.{plain_act};
 ghost use Rattle.tcp_flow.specs.Small.{CanHappen};
 
@@ -59,6 +60,13 @@ impl Table {
             free: BTreeSet::new(alloc),
             next: 0,
         }
+    }
+
+    /// The numbers are in order.
+    pub(crate) fn is_in_order(&self)
+        ensures { InOrder self.now }
+    {
+        let _conns = &self.conns;
     }
 
     /// The number of the connection between these two.
