@@ -1,0 +1,81 @@
+//! What the program answers to scenarios, over files in memory. Standard input has rows: a line `=== COMMAND SHOWN FAILS: TITLE`, and
+//! behind it a scenario. SHOWN says how many of the first bytes of each captured packet are written, and FAILS which call of
+//! the store fails (0: none). Of each row stand in the output its title, the answer, the files with what was captured, and the text.
+#![tactic(auto)]
+
+mod capture;
+mod row;
+
+use anyhow::{Context, Result};
+use outside::{File, MemSink, MemSource, MemStore};
+use pkt_face::PlainPkt;
+use row::Row;
+use sim_run::{Status, run_program};
+use std::alloc::Global;
+use std::io;
+
+/// What a row leaves.
+#[derive(Drop)]
+struct Ran {
+    status: Status,
+    store: MemStore,
+    sink: MemSink,
+}
+
+/// Runs a row.
+fn run(alloc: Global, row: &Row) -> Result<Ran> {
+    let words = vec![in alloc; String::from_str(alloc, row.command)?]?;
+    let mut source = MemSource::make(alloc, row.scenario.as_bytes(), &[])
+        .ok()
+        .context("no memory")?;
+    let mut store = MemStore::make(alloc, &[row.fails])
+        .ok()
+        .context("no memory")?;
+    let mut sink = MemSink::make(alloc, &[]).ok().context("no memory")?;
+    let status = run_program::<PlainPkt, MemSource, MemStore, MemSink>(
+        alloc,
+        &words,
+        &mut source,
+        &mut store,
+        &mut sink,
+    );
+    Ok(Ran {
+        status,
+        store,
+        sink,
+    })
+}
+
+/// A file's name and length, and the packets that it holds.
+fn file_text(alloc: Global, file: &File, shown: usize) -> Result<String> {
+    let name = String::from_utf8(Vec::from_slice(alloc, file.name.as_slice())?)
+        .ok()
+        .context("a name is UTF-8")?;
+    let length = file.bytes.as_slice().len();
+    let packets = capture::text(alloc, file.bytes.as_slice(), shown)?;
+    Ok(format!(in alloc; "{name} {length} bytes\n{packets}")?)
+}
+
+fn main(rt: HostRuntime) -> Result<()> {
+    let alloc = rt.alloc();
+    let rows = io::read_to_string(alloc, rt.stdin())?;
+    for text in rows.as_str().split("=== ").skip(1) {
+        let row = row::read(text).context("a row begins with COMMAND SHOWN FAILS: TITLE")?;
+        let title = row.title;
+        let Ran {
+            status,
+            store,
+            sink,
+        } = run(alloc, &row)?;
+        println!(rt; "{title}: {status:?}")?;
+        for file in store.files() {
+            let said = file_text(alloc, file, row.shown)?;
+            print!(rt; "{said}")?;
+        }
+        let said = String::from_utf8(Vec::from_slice(alloc, sink.bytes())?)
+            .ok()
+            .context("a text is UTF-8")?;
+        println!(rt; "{said}")?;
+    }
+    Ok(())
+}
