@@ -31,7 +31,7 @@ impl<P: Pkt> Model for Lp<P> {
     ghost use Rattle.std.specs.Prelude.{◌≡◌, [], map};
     ghost use Rattle.node_rules.specs.Worlds.{event_of};
     ghost use Rattle.pkt_face.specs.Seen.{plain_line};
-ghost use Rattle.node_step.specs.Loads.{plain_event, plain_load};
+    ghost use Rattle.node_step.specs.Loads.{plain_event, plain_load};
     ghost use Rattle.lp_run.specs.Lp.{PlainLp};
     ghost use Rattle.lp_run.specs.Pending.{pending_event};
 

@@ -28,7 +28,7 @@ impl<P: Pkt> Model for Firing<P> {
     ghost use Rattle.std.specs.Prelude.{◌≡◌, ◌+◌, ◌≤◌, ◌^◌, map};
     ghost use Rattle.node_step.specs.Firing.{PlainFiring, request_of, text_of, scheduled, numbered};
     ghost use Rattle.pkt_face.specs.Seen.{plain_line};
-ghost use Rattle.node_step.specs.Loads.{plain_event};
+    ghost use Rattle.node_step.specs.Loads.{plain_event};
 
     ghost Value = { PlainFiring };
 
