@@ -37,21 +37,29 @@ def head(nodes):
     return f"format = 1\nnodes = {nodes}\nstop_ns = 1000000000000\nevents_per_node = 1000000000\n"
 
 
+# A packet lives so many hops, so no flow is longer.
+LONGEST = 64
+
+
 def chain(nodes, flows, datagrams, captures):
-    """Nodes in a row, at most 65, since a packet lives 64 hops. Flows go from end to end, every other one the other way."""
-    last = nodes - 1
-    networks = [f"10.{k // 256}.{k % 256}" for k in range(last)]
+    """Nodes in a row. Each flow goes from end to end, in a longer row as far as a packet lives, and every other one the other way."""
+    hops = min(nodes - 1, LONGEST)
+    networks = [f"10.{k // 256}.{k % 256}" for k in range(nodes - 1)]
+    firsts = [flow * (nodes - 1 - hops) // max(flows - 1, 1) for flow in range(flows)]
     parts = [head(nodes)]
     parts += [link(k, k + 1, network, captures) for k, network in enumerate(networks)]
-    for k in range(last):
-        if k + 1 < last:
-            parts.append(route(k, networks[-1], f"{networks[k]}.2"))
-        if k > 0:
-            parts.append(route(k + 1, networks[0], f"{networks[k]}.1"))
-    parts += [sink(0), sink(last)]
-    for flow in range(flows):
-        ends = (0, f"{networks[-1]}.2") if flow % 2 == 0 else (last, f"{networks[0]}.1")
-        parts.append(sender(*ends, flow * 100_000, datagrams))
+    # A flow up ends at the far end of its last link, and a flow down at the near end of its first one.
+    goals = [(first + hops - 1, 2) if flow % 2 == 0 else (first, 1) for flow, first in enumerate(firsts)]
+    for goal in sorted({network for network, _ in goals}):
+        for node in range(nodes):
+            if node < goal:
+                parts.append(route(node, networks[goal], f"{networks[node]}.2"))
+            elif node > goal + 1:
+                parts.append(route(node, networks[goal], f"{networks[node - 1]}.1"))
+    parts += [sink(node) for node in sorted({network + end - 1 for network, end in goals})]
+    for flow, (first, (network, end)) in enumerate(zip(firsts, goals)):
+        start = first if flow % 2 == 0 else first + hops
+        parts.append(sender(start, f"{networks[network]}.{end}", flow * 100_000, datagrams))
     return "".join(parts)
 
 
