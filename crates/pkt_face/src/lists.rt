@@ -27,13 +27,15 @@ pub(crate) fn joined<T: Copy>(alloc: Global, front: &[T], back: &[T]) -> Result<
     Ok(all)
 }
 
-/// Keeps the bytes from `from` up to `to`.
+/// Keeps the bytes from `from` up to `to`. They are moved only where the first of them isn't kept.
 pub(crate) fn cut_bytes(bytes: &mut Vec<u8>, from: usize, to: usize)
     requires order { from ≤ to }
     requires inside { to ≤ length bytes.old.items }
     ensures { bytes.new.items ≡ slice_range bytes.old.items from to }
 {
-    bytes.copy_within(from..to, 0);
+    if from > 0 {
+        bytes.copy_within(from..to, 0);
+    }
     bytes.truncate(to - from);
 }
 
