@@ -1,4 +1,4 @@
-//! The program: it reads a scenario from standard input. `run` runs it, and writes its capture file
+//! The program: it reads a scenario from standard input. `run` runs it, and writes its capture files
 //! into the working folder and its summary to standard output; `check` writes its sizes. Where
 //! something stops it, it writes one line that says what, and ends with a status other than 0.
 #![tactic(auto)]
