@@ -1,21 +1,20 @@
 -- How the bytes of a block come to be lent, are parted and written, and come back. Assumes `Logic`.
-use Rattle.std.proofs.Common.{◌≡◌, ℕ, ◌+◌, ◌≤◌, List, [], ◌∷◌, length, take, refl, arith, drop-drop}
+use Rattle.std.proofs.Common.{◌≡◌, ℕ, ◌+◌, ◌≤◌, List, [], ◌∷◌, length, take, refl, sym, arith, drop-drop}
 use lib.ListN.{drop as drop_l}
 use seplogic.Ra.Ura.{Ura}
 use base.Fraction.{full_share}
 use base.Logic.{SProp, ent, sep}
-use base.Fml.{Fml, GName, Share, fat, feq, fex, flft, fsep}
-use mir.Syntax.{w8, ty_int}
-use mir.Val.{vint}
+use base.Fml.{Fml, GName, Share, feq, fex, flft, fsep}
+use borrow.Rule.Slice.Shared.{parts-cells}
 use types.Logic.{Logic, sem}
 use types.Kit.{‵, later, ◌⊛◌, ◌$◌, ◌∵◌, !, qed, move, drop, use1, use2, split, fsplit, fsplit3, fjoin, feq_i, feq_l, fpick, fpack, await, rewrite, updating, now, done}
+use types.SemTy.{cells}
 use types.Tokens.{lft_new, lft_end}
 use denote.Builtin.{u8}
-use denote.Plain.{uint_in, uint_out}
-use denote.RawPtr.{Ptr, block_ptr, block_of, count_of, lies_at}
+use denote.Memory.{mem}
+use denote.RawPtr.{Ptr, block_of, count_of}
 use denote.RawPtr.Bytes.{bytes}
 use denote.Slice.{elements_shared}
-use denote.Steps.{nothing}
 use Rattle.bytes.specs.Ownership.{IsPlaced, block_owns, closed, known, opened, run_owns}
 use Rattle.bytes.proofs.Loans.{Back, Lent, lend, regain, run_in, cut, open_all, close_all, settle}
 use Rattle.byte_block.specs.Memory.{loan_owns}
@@ -64,19 +63,19 @@ module _ {M : Type 1} {𝓤 : Ura M} (𝓛 : Logic 𝓤) where
       rewrite ! 1 (λ ks. ‵ (closed life ks (drop_l n xs) b next)) (drop-drop n at names) refl $ done !
 
   module _ (life b o : ℕ) (q : Share) (names : List GName) where
-    -- the one byte of a loan, taken out to be written
-    pub take_byte : (x : ℕ) → ent 𝓤 (sep 𝓤 ⟦ closed life names (x ∷ []) b o ⟧ ⟦ flft (life ∷ []) q ⟧) (H.⇛ (sep 𝓤 ⟦ fat full_share (ty_int w8) b o (vint w8 x) ⟧ ⟦ opened life q names 1 b o ⟧))
-    take_byte x =
-        qed 𝓛 (‵ (closed life names (x ∷ []) b o) ∷ ‵ (flft (life ∷ []) q) ∷ []) ∵ updating ! $
-        use2 𝓛 (later (‵ (bytes full_share (x ∷ []) b o) ⊛ ‵ (opened life q names 1 b o))) (open_all 𝓛 life b q names (x ∷ []) o) $ await ! tt $ split ! $ fsplit ! $
-        use1 𝓛 (‵ (fat full_share (ty_int w8) b o (vint w8 x))) (uint_out 𝓛 full_share w8 x b o) $ move ! (1 ∷ []) $ drop ! $ now ! $ done !
+    -- the bytes of a loan, taken out to be written
+    pub take_bytes : (xs : List ℕ) → ent 𝓤 (sep 𝓤 ⟦ closed life names xs b o ⟧ ⟦ flft (life ∷ []) q ⟧) (H.⇛ (sep 𝓤 ⟦ cells (mem u8) xs b o ⟧ ⟦ opened life q names (length xs) b o ⟧))
+    take_bytes xs =
+        qed 𝓛 (‵ (closed life names xs b o) ∷ ‵ (flft (life ∷ []) q) ∷ []) ∵ updating ! $
+        use2 𝓛 (later (‵ (bytes full_share xs b o) ⊛ ‵ (opened life q names (length xs) b o))) (open_all 𝓛 life b q names xs o) $ await ! tt $ split ! $
+        rewrite ! 0 (λ (F : Fml). ‵ F) (parts-cells u8 full_share xs b o) refl $ now ! $ done !
 
-    -- and put back for good: whoever has the lifetime may read it
-    pub settle_byte : (x : ℕ) → ent 𝓤 (sep 𝓤 ⟦ fat full_share (ty_int w8) b o (vint w8 x) ⟧ ⟦ opened life q names 1 b o ⟧) (H.⇛ (sep 𝓤 ⟦ elements_shared u8 (x ∷ []) b o (life ∷ []) ⟧ ⟦ flft (life ∷ []) q ⟧))
-    settle_byte x =
-        let back = closed life names (x ∷ []) b o in let seen = elements_shared u8 (x ∷ []) b o (life ∷ []) in
-        qed 𝓛 (‵ (fat full_share (ty_int w8) b o (vint w8 x)) ∷ ‵ (opened life q names 1 b o) ∷ []) ∵ updating ! $
-        use1 𝓛 (‵ (lies_at u8 full_share (block_ptr b o) x)) (uint_in 𝓛 full_share w8 x b o) $ nothing ! $ move ! (1 ∷ 0 ∷ []) $ fjoin ! $
-        use2 𝓛 (later (‵ back ⊛ ‵ (flft (life ∷ []) q))) (close_all 𝓛 life b q names (x ∷ []) o) $ await ! tt $ split ! $
-        use2 𝓛 (later (‵ (fsep seen (known names (x ∷ []))) ⊛ ‵ (flft (life ∷ []) q))) (settle 𝓛 life b q names (x ∷ []) o) $ await ! tt $ split ! $
+    -- and put back for good: whoever has the lifetime may read them
+    pub settle_bytes : (xs : List ℕ) → ent 𝓤 (sep 𝓤 ⟦ cells (mem u8) xs b o ⟧ ⟦ opened life q names (length xs) b o ⟧) (H.⇛ (sep 𝓤 ⟦ elements_shared u8 xs b o (life ∷ []) ⟧ ⟦ flft (life ∷ []) q ⟧))
+    settle_bytes xs =
+        let back = closed life names xs b o in let seen = elements_shared u8 xs b o (life ∷ []) in
+        qed 𝓛 (‵ (cells (mem u8) xs b o) ∷ ‵ (opened life q names (length xs) b o) ∷ []) ∵ updating ! $
+        rewrite ! 0 (λ (F : Fml). ‵ F) (sym (parts-cells u8 full_share xs b o)) refl $
+        use2 𝓛 (later (‵ back ⊛ ‵ (flft (life ∷ []) q))) (close_all 𝓛 life b q names xs o) $ await ! tt $ split ! $
+        use2 𝓛 (later (‵ (fsep seen (known names xs)) ⊛ ‵ (flft (life ∷ []) q))) (settle 𝓛 life b q names xs o) $ await ! tt $ split ! $
         fsplit ! $ move ! (1 ∷ []) $ drop ! $ now ! $ done !

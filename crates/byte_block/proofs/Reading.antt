@@ -48,8 +48,3 @@ module _ {M : Type 1} {𝓤 : Ura M} (𝓛 : Logic 𝓤) where
       of_none : (hs : List ℕ) → ent 𝓤 (emp 𝓤) (sem 𝓛 (closed a hs [] (block_of p) (count_of p + n)))
       of_none [] = id⊢ 𝓤 _
       of_none (γ ∷ hs) = id⊢ 𝓤 _
-
-pub only_one : (xs : List ℕ) → length xs ≡ 1 → (x : ℕ) × (xs ≡ x ∷ [])
-only_one [] e = absurd (omega arith)
-only_one (x ∷ []) e = (x, refl)
-only_one (x ∷ y ∷ xs) e = absurd (omega arith)

@@ -155,18 +155,12 @@ impl FreeRange {
     }
 }
 
-// Writes the bytes of a loan, from the front on.
-pub(crate) fn fill(mut loan: Loan, memory: &Memory, base: *mut u8, at: usize, bytes: &[u8]) -> Shown
+// Writes the bytes of a loan.
+pub(crate) fn fill(loan: Loan, memory: &Memory, base: *mut u8, at: usize, bytes: &[u8]) -> Shown
     requires loan { (loan.life ≡ memory.now.life) × (loan.base ≡ base) × (loan.at ≡ at) }
     requires bytes { (length loan.items ≡ length bytes.now) × (at + length bytes.now ≤ LARGEST) }
     ensures { ShownAs result loan.life base at bytes.now }
 {
-    let (_, mut shown) = loan.nothing();
-    for (i, &byte) in bytes.iter().enumerate() {
-        let (first, rest) = loan.cut(1);
-        let place = unsafe { base.byte_add(at + i) };
-        shown = shown.join(first.put(memory, place, byte));
-        loan = rest;
-    }
-    shown
+    let first = unsafe { base.byte_add(at) };
+    loan.put(memory, first, bytes)
 }

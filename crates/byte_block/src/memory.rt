@@ -138,16 +138,24 @@ impl Loan {
         (Loan {}, Loan {})
     }
 
-    // Writes the one byte, which stays from here on.
-    pub(crate) fn put(self, memory: &Memory, ptr: *mut u8, byte: u8) -> Shown
+    // Writes the bytes, which stay from here on.
+    pub(crate) fn put(self, memory: &Memory, ptr: *mut u8, bytes: &[u8]) -> Shown
         requires { (self.life ≡ memory.now.life) × (ptr ≡ self.base +ₚ self.at)
-            × (length self.items ≡ 1) }
-        ensures { ShownAs result self.life self.base self.at (byte ∷ []) }
+            × (length self.items ≡ length bytes.now) × (length bytes.now < 2 ^ 63) }
+        ensures { ShownAs result self.life self.base self.at bytes.now }
     {
         let Loan {} = self;
-        unsafe { *ptr = byte };
+        let places = unsafe { slice::from_raw_parts_mut(ptr, bytes.len()) };
+        copy_in(places, bytes);
         Shown {}
     }
+}
+
+fn copy_in(places: &mut [u8], bytes: &[u8])
+    requires { length places.old ≡ length bytes.now }
+    ensures { places.new ≡ bytes.now }
+{
+    places.copy_from_slice(bytes);
 }
 
 impl Shown {
