@@ -9,3 +9,4 @@ pub mod PacketTagLaws
 pub mod PacketLaws
 pub mod CutJoinLaws
 pub mod PacketMade
+pub mod ListedLaws

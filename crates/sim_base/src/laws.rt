@@ -1,12 +1,23 @@
-//! What holds of plain packets, whatever represents them. The functions do nothing: their contracts are
-//! the laws.
+//! What holds of keys, and of plain packets, whatever represents them. The functions do nothing: their contracts
+//! are the laws.
 
-ghost use Rattle.std.specs.Prelude.{◌≡◌, ◌+◌, ◌≤◌, ◌<◌, ℕ, true, None, List, [], length, slice_range};
+ghost use Rattle.std.specs.Prelude.{◌≡◌, ◌+◌, ◌≤◌, ◌<◌, ℕ, true, false, None, List, [], length, slice_range};
 ghost use Rattle.sim_base.specs.declared.item.Kind.{Kind};
 ghost use Rattle.sim_base.specs.declared.numbers.Uid.{Uid};
+ghost use Rattle.sim_base.specs.declared.key.Key.{Key};
+ghost use Rattle.sim_base.specs.KeyOrder.{before};
 ghost use Rattle.sim_base.specs.Items.{first_is_whole, last_is_whole};
 ghost use Rattle.sim_base.specs.PacketTags.{find_tag};
 ghost use Rattle.sim_base.specs.Packet.{Packet, IsPacket, len, longest, from_bytes, push_front, push_back, cut, pop_front, pop_back, join, add_byte_tag, add_tag, replace_tag, remove_tag};
+
+/// The order of events is total: of two keys that aren't the same one comes before the other, and never both; time
+/// comes first.
+pub fn keys_are_totally_ordered()
+    ensures one_way { (a b : Key) → before a b ≡ true → before b a ≡ false }
+    ensures through { (a b c : Key) → before a b ≡ true → before b c ≡ true → before a c ≡ true }
+    ensures total { (a b : Key) → before a b ≡ false → before b a ≡ false → a ≡ b }
+    ensures time_first { (a b : Key) → a.time.0 < b.time.0 → before a b ≡ true }
+{}
 
 /// Every call makes packets of packets: the length is small, each byte tag lies on bytes, no two packet
 /// tags have one number, and the items cover the bytes, each with a byte left and none going on in the
