@@ -116,6 +116,39 @@ with_word t (a ∷ b ∷ c ∷ d ∷ e ∷ []) long all = absurd (omega arith)
 with_word t (a ∷ b ∷ c ∷ d ∷ e ∷ f ∷ []) long all = absurd (omega arith)
 with_word t (a ∷ b ∷ c ∷ d ∷ e ∷ f ∷ g ∷ []) long all = absurd (omega arith)
 
+big_number-2 : (a b : ℕ) (bytes : List ℕ) → big_number 2 (a ∷ b ∷ bytes) ≡ a * 256 + b
+big_number-2 a b bytes = omega arith
+
+-- the number in two bytes on a folded sum
+pub with_two : (t : ℕ) (xs : List ℕ) → 2 ≤ length xs → All (λ x. x < 256) xs → with_bytes (record { sum = folded t; odd = false }) (take 2 xs) ≡ record { sum = folded (t + big_number 2 xs); odd = false }
+with_two t (a ∷ b ∷ xs) long all =
+    let P : ℕ → Type 0 = λ x. x < 256 in
+    let all1 = All-tail P a (b ∷ xs) all in
+    with_pair t a b [] (All-head P a (b ∷ xs) all) (All-head P b xs all1)
+    ∙ ap (λ n. record { sum = n; odd = false }) (sym (ap (λ n. folded (t + n)) (big_number-2 a b xs)))
+with_two t [] long all = absurd (omega arith)
+with_two t (a ∷ []) long all = absurd (omega arith)
+
+-- one pair more
+pub pairs_more : (s : Running) (bytes : List ℕ) (i t w : ℕ) → All (λ x. x < 256) bytes → 2 * i + 2 ≤ length bytes → with_bytes s (take (2 * i) bytes) ≡ record { sum = folded t; odd = false } → w ≡ field (2 * i) 2 bytes → with_bytes s (take (2 * (i + 1)) bytes) ≡ record { sum = folded (add_wide t w); odd = false }
+pairs_more s bytes i t w all inside before read =
+    let rest = drop (2 * i) bytes in
+    let next : 2 * (i + 1) ≡ 2 * i + 2 = omega arith in
+    ap (λ n. with_bytes s (take n bytes)) next
+    ∙ ap (with_bytes s) (take-add (2 * i) 2 bytes)
+    ∙ with_bytes-append s (take (2 * i) bytes) (take 2 rest)
+    ∙ ap (λ r. with_bytes r (take 2 rest)) before
+    ∙ with_two t rest (omega (arith, length-drop (2 * i) bytes)) (All-drop (λ x. x < 256) (2 * i) bytes all)
+    ∙ ap (λ n. record { sum = n; odd = false }) (sym (folded-add_wide t w ∙ ap (λ n. folded (t + n)) read))
+
+-- words, and pairs behind them
+pub words_and_pairs : (s : Running) (bytes : List ℕ) (k m t u : ℕ) → with_bytes s (take k bytes) ≡ record { sum = folded t; odd = false } → with_bytes (record { sum = folded t; odd = false }) (take m (drop k bytes)) ≡ record { sum = folded u; odd = false } → with_bytes s (take (k + m) bytes) ≡ record { sum = folded u; odd = false }
+words_and_pairs s bytes k m t u before after =
+    ap (with_bytes s) (take-add k m bytes)
+    ∙ with_bytes-append s (take k bytes) (take m (drop k bytes))
+    ∙ ap (λ r. with_bytes r (take m (drop k bytes))) before
+    ∙ after
+
 -- one word more
 pub words_more : (s : Running) (bytes : List ℕ) (i t w : ℕ) → All (λ x. x < 256) bytes → 8 * i + 8 ≤ length bytes → with_bytes s (take (8 * i) bytes) ≡ record { sum = folded t; odd = false } → w ≡ field (8 * i) 8 bytes → with_bytes s (take (8 * (i + 1)) bytes) ≡ record { sum = folded (add_wide t w); odd = false }
 words_more s bytes i t w all inside before read =

@@ -2,7 +2,7 @@
 
 ghost use Rattle.std.specs.Prelude.{◌≡◌, ℕ, ◌-◌, ◌%◌, ◌<◌, false, List, All, length, replicate};
 
-use crate::fields::read_u64;
+use crate::fields::{read_u16, read_u64};
 use std::marker::Model;
 
 /// The sum of the bytes so far.
@@ -63,14 +63,17 @@ impl Sum {
         u16::MAX - self.sum
     }
 
-    /// Adds bytes whose first one begins a pair: eight at a time, and the last ones one by one.
+    /// Adds bytes whose first one begins a pair: eight at a time, then two at a time, and an odd last one
+    /// alone.
     fn add_pairs(&mut self, bytes: &[u8])
         requires { self.old.odd ≡ false }
         ensures { self.new ≡ with_bytes self.old bytes.now }
     {
-        let whole = bytes.len() / 8 * 8;
-        self.sum = folded(sum_of_words(u64::from(self.sum), &bytes[..whole]));
-        self.add_each(&bytes[whole..]);
+        let words = bytes.len() / 8 * 8;
+        let pairs = bytes.len() / 2 * 2;
+        let total = sum_of_words(u64::from(self.sum), &bytes[..words]);
+        self.sum = folded(sum_of_pairs(total, &bytes[words..pairs]));
+        self.add_each(&bytes[pairs..]);
     }
 
     fn add_each(&mut self, bytes: &[u8])
@@ -104,6 +107,18 @@ fn sum_of_words(sum: u64, bytes: &[u8]) -> u64
     let mut total = sum;
     for i in 0..bytes.len() / 8 {
         total = add_wide(total, read_u64(bytes, 8 * i));
+    }
+    total
+}
+
+/// A sum with pairs of bytes behind it.
+fn sum_of_pairs(sum: u64, bytes: &[u8]) -> u64
+    requires { length bytes.now % 2 ≡ 0 }
+    ensures { with_bytes (record { sum = folded sum; odd = false }) bytes.now ≡ record { sum = folded result; odd = false } }
+{
+    let mut total = sum;
+    for i in 0..bytes.len() / 2 {
+        total = add_wide(total, u64::from(read_u16(bytes, 2 * i)));
     }
     total
 }

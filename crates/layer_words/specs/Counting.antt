@@ -1,4 +1,4 @@
--- Counts, and the numbers of new packets.
+-- Counts, the numbers of new packets, and the stamps of timers.
 use Rattle.std.specs.Prelude.{ℕ, ◌+◌, ◌-◌, ◌^◌, min}
 use Rattle.sim_base.specs.declared.numbers.Numbers.{Numbers}
 use Rattle.sim_base.specs.declared.numbers.Uid.{Uid}
@@ -14,3 +14,7 @@ new_uid numbers = record { node = numbers.node; count = numbers.packets }
 -- a node's numbers when it has made one more packet
 abbrev pub with_packet : Numbers → Numbers
 with_packet numbers = record numbers { packets = count_up 1 numbers.packets }
+
+-- a node's numbers when it has started one more timer
+abbrev pub with_stamp : Numbers → Numbers
+with_stamp numbers = record numbers { stamps = count_up 1 numbers.stamps }

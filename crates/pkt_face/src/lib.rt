@@ -1,6 +1,8 @@
-//! What a packet is to the layers of the simulator, and the packet that copies everything.
+//! What a packet is to the layers of the simulator, the packet that copies everything, and a packet of any
+//! kind in a box, which is moved as one word.
 #![tactic(auto)]
 
+mod boxed;
 mod face;
 mod line;
 mod lists;
@@ -9,6 +11,7 @@ mod plain;
 #[cfg(test)]
 mod tests;
 
+pub use boxed::BoxedPkt;
 pub use face::Pkt;
 pub use line::{Line, Sign};
 pub use offer::Offer;
