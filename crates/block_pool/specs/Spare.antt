@@ -1,5 +1,5 @@
 -- How many spare blocks a pool has.
-use Rattle.std.specs.Prelude.{ℕ, ◌-◌, ◌<◌, max, Option, None, Some}
+use Rattle.std.specs.Prelude.{◌≡◌, ℕ, ◌-◌, ◌<◌, max, Option, None, Some}
 use Rattle.block_pool.specs.declared.class.Class.{Class}
 use Rattle.block_pool.specs.declared.class.Class.TheVariants.{Small, Middle, Large}
 use Rattle.block_pool.specs.Class.{class_for}
@@ -43,3 +43,8 @@ HasSpareFor n s = has (class_for n) s
     has : Option Class → Spare → Type 0
     has None s = ⊥
     has (Some class) s = 0 < spare_of class s
+
+-- one spare block is gone at most, of the class that fits so many bytes
+pub record TakesOne (old new : Spare) : Type 0 where
+  pub bytes : ℕ
+  pub taken : new ≡ taken_for bytes old

@@ -73,10 +73,11 @@ impl Pool {
     }
 
     /// A window with these bytes that stands at 64, alone on a block of the class that fits or, for more
-    /// than 1,968 bytes, on one of its own. There are at most 131,072 bytes.
+    /// than 1,968 bytes, on one of its own with 16 places behind them. There are at most 131,072 bytes.
     pub fn make_in(&mut self, bytes: &[u8]) -> Result<Window, NoMemory>
         requires { length bytes.now ≤ 131072 }
         ensures ok { IfOk result (IsFresh bytes.now) }
+        ensures places { IfOk result (λ w. w.capacity ≡ sizes.places_for (length bytes.now)) }
         ensures succeeds { HasSpareFor (length bytes.now) self.old → IsOk result }
         ensures after { self.new ≡ taken_for (length bytes.now) self.old }
     {
@@ -100,6 +101,7 @@ fn filled(mut window: Window, bytes: &[u8]) -> Result<Window, NoMemory>
     requires fresh { IsSpare window.capacity window }
     requires room { sizes.FRONT + length bytes.now ≤ window.capacity }
     ensures ok { IfOk result (IsFresh bytes.now) }
+    ensures places { IfOk result (λ w. w.capacity ≡ window.capacity) }
     ensures succeeds { IsOk result }
 {
     match window.grow_back(bytes) {

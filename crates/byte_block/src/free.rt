@@ -2,6 +2,7 @@
 
 ghost use Rattle.std.specs.Prelude.{◌≡◌, ◌+◌, ◌-◌, ◌≤◌, ◌++◌, length, take, drop, IfOk};
 ghost use Rattle.byte_block.specs.Loaned.{ShownAs};
+ghost use Rattle.byte_block.specs.Places.{AreApart};
 ghost use Rattle.byte_block.specs.Ranges.{LARGEST, Frozen, end_of};
 
 use crate::FrozenRange;
@@ -95,6 +96,32 @@ impl FreeRange {
             loan: back,
         };
         Ok((front, back))
+    }
+
+    /// Two free ranges of a block that are held at once have no place in common. It does nothing.
+    pub fn apart_from_free(&mut self, other: &mut FreeRange)
+        requires { other.old.block ≡ self.old.block }
+        ensures kept { (self.new ≡ self.old) × (other.new ≡ other.old) }
+        ensures apart { AreApart self.old.from self.old.to other.old.from other.old.to }
+    {
+        let (nothing, _) = self.loan.nothing();
+        let mine = mem::replace(&mut self.loan, nothing);
+        let (nothing, _) = other.loan.nothing();
+        let theirs = mem::replace(&mut other.loan, nothing);
+        let (mine, theirs) = mine.apart(theirs, &self.memory);
+        self.loan = mine;
+        other.loan = theirs;
+    }
+
+    /// A free and a frozen range of a block that are held at once have no place in common. It does nothing.
+    pub fn apart_from_frozen(&mut self, other: &FrozenRange)
+        requires { other.now.block ≡ self.old.block }
+        ensures kept { self.new ≡ self.old }
+        ensures apart { AreApart self.old.from self.old.to other.now.from (end_of other.now) }
+    {
+        let (nothing, _) = self.loan.nothing();
+        let mine = mem::replace(&mut self.loan, nothing);
+        self.loan = mine.unseen(&other.shown, &self.memory);
     }
 
     /// Fills all of the range, for good.

@@ -1,6 +1,7 @@
 //! Bytes of a block that never change, and may be read by several owners at once.
 
 ghost use Rattle.std.specs.Prelude.{◌≡◌, IfOk};
+ghost use Rattle.byte_block.specs.Places.{Agree};
 
 use crate::memory::{Memory, Shown};
 use sim_base::NoMemory;
@@ -49,6 +50,15 @@ impl FrozenRange {
             to: self.to,
             shown: self.shown.again(),
         })
+    }
+
+    /// Two frozen ranges of a block that are held at once have the same byte at each place that both have. It
+    /// does nothing.
+    pub fn agrees_with(&self, other: &FrozenRange)
+        requires { other.now.block ≡ self.now.block }
+        ensures { Agree self.now.from self.now.bytes other.now.from other.now.bytes }
+    {
+        let _ = self.shown.agreed(&other.shown, &self.memory);
     }
 
     /// The first of its places.

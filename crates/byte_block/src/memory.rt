@@ -120,6 +120,7 @@ impl Drop for Memory {
 
 impl Loan {
     ghost use Rattle.byte_block.specs.Loaned.{LoanOf, ShownAs};
+    ghost use Rattle.byte_block.specs.Places.{AreApart};
 
     // A loan of no bytes, and the right to read none.
     pub(crate) fn nothing(&self) -> (Loan, Shown)
@@ -136,6 +137,27 @@ impl Loan {
     {
         let Loan {} = self;
         (Loan {}, Loan {})
+    }
+
+    // Two loans of a block that are held at once have no place in common.
+    pub(crate) fn apart<'a>(self, other: Loan, memory: &'a Memory) -> (Loan, Loan)
+        requires { (self.life ≡ memory.now.life) × (other.life ≡ self.life) × (other.base ≡ self.base) }
+        ensures { (result.0 ≡ self) × (result.1 ≡ other)
+            × AreApart self.at (self.at + length self.items) other.at (other.at + length other.items) }
+    {
+        let Loan {} = self;
+        let Loan {} = other;
+        (Loan {}, Loan {})
+    }
+
+    // What may be written has no place in common with what may be read.
+    pub(crate) fn unseen<'a>(self, seen: &'a Shown, memory: &'a Memory) -> Loan
+        requires { (self.life ≡ memory.now.life) × (seen.now.life ≡ self.life) × (seen.now.base ≡ self.base) }
+        ensures { (result ≡ self)
+            × AreApart self.at (self.at + length self.items) seen.now.at (seen.now.at + length seen.now.items) }
+    {
+        let Loan {} = self;
+        Loan {}
     }
 
     // Writes the bytes, which stay from here on.
@@ -160,9 +182,18 @@ fn copy_in(places: &mut [u8], bytes: &[u8])
 
 impl Shown {
     ghost use Rattle.byte_block.specs.Loaned.{ShownAs};
+    ghost use Rattle.byte_block.specs.Places.{Agree};
 
     pub(crate) fn again(&self) -> Shown
         ensures { result ≡ self.now }
+    {
+        Shown {}
+    }
+
+    // The same right, whose bytes are those of another one wherever both have a place.
+    pub(crate) fn agreed<'a>(&'a self, other: &'a Shown, memory: &'a Memory) -> Shown
+        requires { (self.now.life ≡ memory.now.life) × (other.now.life ≡ self.now.life) × (other.now.base ≡ self.now.base) }
+        ensures { (result ≡ self.now) × Agree self.now.at self.now.items other.now.at other.now.items }
     {
         Shown {}
     }

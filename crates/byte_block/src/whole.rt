@@ -1,11 +1,13 @@
 //! A block that has one owner.
 
-ghost use Rattle.std.specs.Prelude.{◌≡◌, ◌+◌, ◌-◌, ◌≤◌, ◌++◌, length, IfOk, IfErr};
+ghost use Rattle.std.specs.Prelude.{◌≡◌, ◌+◌, ◌-◌, ◌<◌, ◌≤◌, ◌++◌, [], true, false, length, IfOk, IfErr};
+ghost use Rattle.byte_block.specs.Held.{Lends};
 ghost use Rattle.byte_block.specs.Ranges.{LARGEST, Free, Frozen, Whole, end_of, frozen_of, before_of, behind_of};
 
 use crate::free::fill;
 use crate::memory::{Loan, Memory, Shown};
 use crate::{FreeRange, FrozenRange};
+use core::mem::replace_with;
 use sim_base::NoMemory;
 use std::alloc::Global;
 use std::marker::Model;
@@ -74,6 +76,29 @@ impl WholeBlock {
             shown,
             behind,
         })
+    }
+
+    /// Gives up the bytes, so that all places are free again: `front` of them before the bytes that come, in
+    /// what is from here on a block of its own. Where others share the block, it stays as it was.
+    pub fn renew(&mut self, front: u32) -> bool
+        requires { front ≤ self.old.capacity }
+        ensures renewed { result ≡ true → (self.new.from ≡ front) × (self.new.bytes ≡ []) × (self.new.capacity ≡ self.old.capacity) }
+        ensures refused { result ≡ false → self.new ≡ self.old }
+    {
+        let Some(memory) = Arc::get_mut(&mut self.memory) else {
+            return false;
+        };
+        let (loan, base) = replace_with(memory, (), lent_anew);
+        let (loan, _) = loan.cut(self.capacity as usize);
+        let (before, behind) = loan.cut(front as usize);
+        let (_, shown) = behind.nothing();
+        self.base = base;
+        self.before = before;
+        self.shown = shown;
+        self.behind = behind;
+        self.from = front;
+        self.to = front;
+        true
     }
 
     /// How many places it has.
@@ -203,4 +228,17 @@ impl WholeBlock {
             behind: behind.loan,
         }
     }
+}
+
+/// Ends all loans of a block's bytes, and lends them anew.
+fn lent_anew(memory: Memory, _: ()) -> (Memory, (Loan, *mut u8))
+    requires { 0 < memory.emptied.len }
+    ensures places { result.0.emptied.len ≡ memory.emptied.len }
+    ensures base { result.1.1 ≡ result.0.emptied.ptr }
+    ensures lends { Lends result.0 result.1.0 0 memory.emptied.len }
+{
+    let mut places = memory.regain();
+    let base = places.as_mut_ptr();
+    let (memory, loan) = Memory::lend(places);
+    (memory, (loan, base))
 }

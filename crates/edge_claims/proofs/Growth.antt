@@ -73,7 +73,7 @@ module _ (me me' : Seated) (e d d' : End) (bs : List ℕ) (free : me.1 ≡ []) (
   filled_back_is w last is told = told d' (held 1 w is) ∙ (λ i. (grown_back (wrote i) (ap (λ (m : Seated). m.0) is i), []))
 
 -- the window i before, and j after
-module _ (i j : Inside) (bs : List ℕ) (s : Stands i) (edges : j.edges ≡ i.edges) (table : j.seat.table_id ≡ i.seat.table_id) (capacity : j.capacity ≡ i.capacity) (claimed : j.claimed ≡ i.claimed) (some : 0 < length bs) where
+module _ (i j : Inside) (bs : List ℕ) (s : Stands i) (edges : j.edges ≡ i.edges) (table : j.seat.table_id ≡ i.seat.table_id) (capacity : j.capacity ≡ i.capacity) (some : 0 < length bs) where
   module _ (here : (view_of i).front.gap ≡ i.start) (fits : length bs ≤ i.start) (start : j.start ≡ i.start - length bs) (end : j.end ≡ i.end)
       (frozen : j.bytes ≡ record { block = i.bytes.block; from = i.bytes.from - length bs; bytes = bs ++ i.bytes.bytes })
       (seat : j.seat.me ≡ (grown_front bs (with_front (won i.start (i.start - length bs) (view_of i).front) (view_of i)), [])) where
@@ -121,11 +121,13 @@ module _ (i j : Inside) (bs : List ℕ) (s : Stands i) (edges : j.edges ≡ i.ed
               end = end;
               low_seen = λ _. ap (λ (m : Seated). (now m).front.seen) seat ∙ sym start;
               high_seen = ap (λ (m : Seated). (now m).capacity - (now m).back.seen) seat;
-              claims = (λ k. claimed k + ap (λ (m : Seated). (now m).front.claims + (now m).back.claims) seat k) ∙ omega (arith, fits);
+              claims = ap (λ (m : Seated). (now m).front.claims + (now m).back.claims) seat ∙ omega (arith, fits);
               there = record {
                 block = ap (λ (m : Seated). (now m).block) seat;
                 capacity = ap (λ (m : Seated). (now m).capacity) seat;
                 alone = ap (λ (m : Seated). (now m).alone) seat;
+                first_low = ap (λ a. a.value.shared.key.first_low) edges;
+                first_high = ap (λ a. a.value.shared.key.first_high) edges;
               };
             }
 
@@ -181,10 +183,12 @@ module _ (i j : Inside) (bs : List ℕ) (s : Stands i) (edges : j.edges ≡ i.ed
               end = end;
               low_seen = ap (λ (m : Seated). (then m).front.seen) seat;
               high_seen = λ _. last ∙ omega (arith, here, fits, end, all, rest_of);
-              claims = (λ k. claimed k + ap (λ (m : Seated). (then m).front.claims + (then m).back.claims) seat k) ∙ omega (arith, fits, here, all, rest_of);
+              claims = ap (λ (m : Seated). (then m).front.claims + (then m).back.claims) seat ∙ omega (arith, fits, here, all, rest_of);
               there = record {
                 block = ap (λ (m : Seated). (then m).block) seat;
                 capacity = ap (λ (m : Seated). (then m).capacity) seat;
                 alone = ap (λ (m : Seated). (then m).alone) seat;
+                first_low = ap (λ a. a.value.shared.key.first_low) edges;
+                first_high = ap (λ a. a.value.shared.key.first_high) edges;
               };
             }

@@ -1,4 +1,4 @@
--- The free places of a block that only its first window has used, and that has claimed nothing.
+-- The free places of a block that only its first window has used, and that has claimed nothing since they were laid out.
 use Rattle.std.proofs.Common.{◌≡◌, ℕ, zero, suc, ◌-◌, List, [], ◌∷◌, length, refl, sym, ap, ◌∙◌, arith}
 use mathlib.Core.Option.{some, some-injective, some-ne-none}
 use lib.ListN.{get_elem?}

@@ -8,7 +8,7 @@ use Rattle.edge_claims.specs.declared.sole.SoleWindow.TheInside.{Inside}
 use Rattle.edge_claims.proofs.Growth.{joined}
 
 abbrev pub grown_by : Inside → Whole → List ℕ → Inside
-grown_by i b bs = record { alloc = i.alloc; block = b; start = i.start - length bs; end = i.end; claimed = i.claimed + length bs }
+grown_by i b bs = record { alloc = i.alloc; block = b; start = i.start - length bs; end = i.end; first_low = i.first_low; first_high = i.first_high }
 
 pub grows_front : (i : Inside) (b : Whole) (bs : List ℕ) (old : Seen) → seen_of_sole i ≡ old → IsSole i → i.block.from ≡ i.start → length bs ≤ i.start
     → b ≡ record { block = i.block.block; from = i.block.from - length bs; bytes = bs ++ i.block.bytes; capacity = i.block.capacity }
@@ -29,10 +29,12 @@ grows_front i b bs old is s here fits grown = subst (λ w. GrownFront bs w (seen
           end = refl;
           low_seen = λ _. from;
           high_seen = omega (arith, from, long, here, fits);
-          claims = refl;
+          claims = omega (arith, from, long, here, fits, s.low, s.high);
           there = record {
             block = ap (λ (w : Whole). w.block) grown;
             capacity = ap (λ (w : Whole). w.capacity) grown;
             alone = refl;
+            first_low = refl;
+            first_high = refl;
           };
         }

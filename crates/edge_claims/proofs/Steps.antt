@@ -9,7 +9,7 @@ use lib.ListN.{get_elem?}
 use Rattle.atomic_table.specs.Table.{step, Allows, Splits, opening}
 use Rattle.atomic_table.specs.Table.Act.{keeps, takes, gives}
 use Rattle.byte_block.specs.Ranges.{Free, end_of}
-use Rattle.edge_claims.specs.Sides.{Side, fresh, won, lost, Stands}
+use Rattle.edge_claims.specs.Sides.{Side, begun, won, lost, Stands}
 use Rattle.edge_claims.specs.Rule.{front_of, back_of, first_places, last_places, first_view, carving, IsRange, Agree, BlockInvariant}
 use Rattle.edge_claims.specs.Steps.{Seated, with_front, with_back, grown_front, grown_back, shared_view, copied_view, claimed_front, claimed_back, filled_front, filled_back}
 use Rattle.edge_claims.specs.declared.view.End.{End}
@@ -33,7 +33,7 @@ module _ (o : Opening) (slots id : ℕ) where
   back_free = last_places o.bytes.block o.capacity
 
   abbrev behind : ℕ
-  behind = o.capacity - end_of o.bytes
+  behind = o.capacity - o.first_high
 
   pub claims_front : (me : Seated) (start left : ℕ) → left < start → me.0.front.gap ≤ start
       → Allows (BlockInvariant o) slots id me 0 (λ n. either (eqb n start) left n) (claimed_front (step slots 0 start left none) me)
@@ -48,10 +48,10 @@ module _ (o : Opening) (slots id : ℕ) where
       (λ hit.
       let room : start ≡ h.front_room = sym hit ∙ found in
       let here : v.front.gap ≡ h.front_room = omega (arith, near, room, own.apart) in
-      let still = idle front_of front_free o.bytes.from s.views id h.front_room h.front_home v h.front at here in
+      let still = idle front_of front_free o.first_low s.views id h.front_room h.front_home v h.front at here in
       let mine_too = total_one (carving front_of) s.views id v at in
       let quiet : v.front.carving ≡ 0 = omega (arith, still, mine_too) in
-      let home = h.front.rest (idle front_of front_free o.bytes.from s.views id h.front_room h.front_home v h.front at here) in
+      let home = h.front.rest (idle front_of front_free o.first_low s.views id h.front_room h.front_home v h.front at here) in
       let e = home.0 in
       let w = with_front (won start left v.front) v in
       let new : either (eqb n start) left n ≡ left = ap (λ b. either b left n) (eq-eqb n start hit) in (
@@ -60,13 +60,15 @@ module _ (o : Opening) (slots id : ℕ) where
         ap (λ hs. get_elem? hs 0) h.homes ∙ ap some home.1,
         record {
           within = h.within;
+          low = h.low;
+          high = h.high;
           front_room = left;
           back_room = h.back_room;
           front_home = none;
           back_home = h.back_home;
           words = ap (λ ws. slice_set ws 0 (either (eqb n start) left n)) h.words ∙ ap (λ x. x ∷ h.back_room ∷ []) new;
           homes = ap (λ hs. slice_set hs 0 none) h.homes;
-          front = wins front_of front_free o.bytes.from s.views id h.front_room left h.front_home v w h.front at (others_known o s.views id v h.views at) here (omega (arith, less, room)) (ap (λ r. won r left v.front) room);
+          front = wins front_of front_free o.first_low s.views id h.front_room left h.front_home v w h.front at (others_known o s.views id v h.views at) here (omega (arith, less, room)) (ap (λ r. won r left v.front) room);
           back = stays back_of back_free behind s.views id h.back_room h.back_home v w h.back at refl (λ a. a);
           views = views_stay o s.views id v h.views at w (range (won start left v.front) refl) refl refl (λ a. a);
           model = model_stays o h.front_room h.back_room s.views id v h.model at left h.back_room w refl (omega (arith, room, less, quiet)) refl;
@@ -85,13 +87,15 @@ module _ (o : Opening) (slots id : ℕ) where
         tt,
         record {
           within = h.within;
+          low = h.low;
+          high = h.high;
           front_room = h.front_room;
           back_room = h.back_room;
           front_home = h.front_home;
           back_home = h.back_home;
           words = ap (λ ws. slice_set ws 0 (either (eqb n start) left n)) h.words ∙ ap (λ x. x ∷ h.back_room ∷ []) (new ∙ found);
           homes = h.homes;
-          front = misses front_of front_free o.bytes.from s.views id h.front_room h.front_home v w h.front at (ap (λ r. lost r v.front) found);
+          front = misses front_of front_free o.first_low s.views id h.front_room h.front_home v w h.front at (ap (λ r. lost r v.front) found);
           back = stays back_of back_free behind s.views id h.back_room h.back_home v w h.back at refl (λ a. a);
           views = views_stay o s.views id v h.views at w (range (lost n v.front) refl) refl refl (λ a. a);
           model = model_stays o h.front_room h.back_room s.views id v h.model at h.front_room h.back_room w refl refl refl;
@@ -128,13 +132,15 @@ module _ (o : Opening) (slots id : ℕ) where
         ap (λ hs. get_elem? hs 1) h.homes ∙ ap some home.1,
         record {
           within = h.within;
+          low = h.low;
+          high = h.high;
           front_room = h.front_room;
           back_room = left;
           front_home = h.front_home;
           back_home = none;
           words = ap (λ ws. slice_set ws 1 (either (eqb n start) left n)) h.words ∙ ap (λ x. h.front_room ∷ x ∷ []) new;
           homes = ap (λ hs. slice_set hs 1 none) h.homes;
-          front = stays front_of front_free o.bytes.from s.views id h.front_room h.front_home v w h.front at refl (λ a. a);
+          front = stays front_of front_free o.first_low s.views id h.front_room h.front_home v w h.front at refl (λ a. a);
           back = wins back_of back_free behind s.views id h.back_room left h.back_home v w h.back at (others_known o s.views id v h.views at) here (omega (arith, less, room)) (ap (λ r. won r left v.back) room);
           views = views_stay o s.views id v h.views at w (range (won start left v.back) refl) refl refl (λ a. a);
           model = model_stays o h.front_room h.back_room s.views id v h.model at h.front_room left w refl refl (omega (arith, room, less, quiet));
@@ -153,13 +159,15 @@ module _ (o : Opening) (slots id : ℕ) where
         tt,
         record {
           within = h.within;
+          low = h.low;
+          high = h.high;
           front_room = h.front_room;
           back_room = h.back_room;
           front_home = h.front_home;
           back_home = h.back_home;
           words = ap (λ ws. slice_set ws 1 (either (eqb n start) left n)) h.words ∙ ap (λ x. h.front_room ∷ x ∷ []) (new ∙ found);
           homes = h.homes;
-          front = stays front_of front_free o.bytes.from s.views id h.front_room h.front_home v w h.front at refl (λ a. a);
+          front = stays front_of front_free o.first_low s.views id h.front_room h.front_home v w h.front at refl (λ a. a);
           back = misses back_of back_free behind s.views id h.back_room h.back_home v w h.back at (ap (λ r. lost r v.back) found);
           views = views_stay o s.views id v h.views at w (range (lost n v.back) refl) refl refl (λ a. a);
           model = model_stays o h.front_room h.back_room s.views id v h.model at h.front_room h.back_room w refl refl refl;
@@ -187,13 +195,15 @@ module _ (o : Opening) (slots id : ℕ) where
         tt,
         record {
           within = h.within;
+          low = h.low;
+          high = h.high;
           front_room = h.front_room;
           back_room = h.back_room;
           front_home = some e;
           back_home = h.back_home;
           words = ap (λ ws. slice_set ws 0 (slice_index s.words 0)) h.words ∙ ap (λ x. x ∷ h.back_room ∷ []) found;
           homes = ap (λ hs. slice_set hs 0 (some e)) h.homes;
-          front = ends front_of front_free o.bytes.from s.views id h.front_room h.front_home e v w h.front at busy refl refl (free ∙ (λ i. first_places (mine.block i) (mine.capacity i) (left i)));
+          front = ends front_of front_free o.first_low s.views id h.front_room h.front_home e v w h.front at busy refl refl (free ∙ (λ i. first_places (mine.block i) (mine.capacity i) (left i)));
           back = stays back_of back_free behind s.views id h.back_room h.back_home v w h.back at refl (λ a. a);
           views = views_change o s.views id v h.views at w (record { block = mine.block; capacity = mine.capacity; length = omega (arith, mine.length, more, wide, place.0, place.1) })
               (λ j u f. agree_front v u bs wide (omega (arith, place.0, place.1)) (let theirs = h.front.each j u f in omega (arith, theirs.apart, place.1)) (h.views.agree id j v u at f)) (λ a. a);
@@ -218,13 +228,15 @@ module _ (o : Opening) (slots id : ℕ) where
         tt,
         record {
           within = h.within;
+          low = h.low;
+          high = h.high;
           front_room = h.front_room;
           back_room = h.back_room;
           front_home = h.front_home;
           back_home = some e;
           words = ap (λ ws. slice_set ws 1 (slice_index s.words 1)) h.words ∙ ap (λ x. h.front_room ∷ x ∷ []) found;
           homes = ap (λ hs. slice_set hs 1 (some e)) h.homes;
-          front = stays front_of front_free o.bytes.from s.views id h.front_room h.front_home v w h.front at refl (λ a. a);
+          front = stays front_of front_free o.first_low s.views id h.front_room h.front_home v w h.front at refl (λ a. a);
           back = ends back_of back_free behind s.views id h.back_room h.back_home e v w h.back at busy refl refl (free ∙ (λ i. last_places (mine.block i) (mine.capacity i) (left i)));
           views = views_change o s.views id v h.views at w (record { block = mine.block; capacity = mine.capacity; length = omega (arith, mine.length, more, wide, place.0, place.1) })
               (λ j u f. agree_back v u bs (let theirs = h.back.each j u f in let yours = h.views.ranges j u f in omega (arith, theirs.apart, place.1, mine.length, yours.length)) (h.views.agree id j v u at f)) (λ a. a);
@@ -246,13 +258,15 @@ module _ (o : Opening) (slots id : ℕ) where
   pub copies : (v : View) → v.front.carving ≡ 0 → v.back.carving ≡ 0 → Splits (BlockInvariant o) id v (shared_view v) (copied_view v)
   copies v front back s h at = record {
     within = h.within;
+    low = h.low;
+    high = h.high;
     front_room = h.front_room;
     back_room = h.back_room;
     front_home = h.front_home;
     back_home = h.back_home;
     words = h.words;
     homes = h.homes;
-    front = splits front_of front_free o.bytes.from s.views id h.front_room h.front_home v (shared_view v) (copied_view v) h.front at front refl false≢true refl false≢true;
+    front = splits front_of front_free o.first_low s.views id h.front_room h.front_home v (shared_view v) (copied_view v) h.front at front refl false≢true refl false≢true;
     back = splits back_of back_free behind s.views id h.back_room h.back_home v (shared_view v) (copied_view v) h.back at back refl false≢true refl false≢true;
     views = views_split o s.views id v h.views at;
     model = model_copies o h.front_room h.back_room s.views id v h.model at front back;
@@ -263,12 +277,12 @@ only_view : (v u : View) (i : ℕ) → get_elem? (v ∷ []) i ≡ some u → v �
 only_view v u zero e = some-injective v u e
 only_view v u (suc i) e = absurd (some-ne-none u (sym e))
 
-pub opens : (o : Opening) (front back : End) → end_of o.bytes ≤ o.capacity → front.free ≡ first_places o.bytes.block o.capacity o.bytes.from
+pub opens : (o : Opening) (front back : End) → end_of o.bytes ≤ o.capacity → o.bytes.from ≤ o.first_low → o.first_high ≤ end_of o.bytes → front.free ≡ first_places o.bytes.block o.capacity o.bytes.from
     → back.free ≡ last_places o.bytes.block o.capacity (o.capacity - end_of o.bytes)
     → BlockInvariant o (opening (o.bytes.from ∷ (o.capacity - end_of o.bytes) ∷ []) (front ∷ back ∷ []) (first_view o))
-opens o front back fits low high =
+opens o front back fits before behind low high =
     let v = first_view o in
-    let starts : (n : ℕ) → Stands n 0 true (fresh n) = λ n. record { apart = omega arith; own = λ busy. absurd (omega (arith, busy)); past = omega arith; known = λ _. refl } in
+    let starts : (n c : ℕ) → Stands n 0 true (begun n c) = λ n c. record { apart = omega arith; own = λ busy. absurd (omega (arith, busy)); past = omega arith; known = λ _. refl } in
     record {
       front_room = o.bytes.from;
       back_room = o.capacity - end_of o.bytes;
@@ -276,8 +290,8 @@ opens o front back fits low high =
       back_home = some back;
       words = refl;
       homes = refl;
-      front = record { each = λ i u e. subst (λ x. Stands o.bytes.from 0 x.alone x.front) (only_view v u i e) (starts o.bytes.from); rest = λ _. (front, refl, low); moved = omega arith };
-      back = record { each = λ i u e. subst (λ x. Stands (o.capacity - end_of o.bytes) 0 x.alone x.back) (only_view v u i e) (starts (o.capacity - end_of o.bytes)); rest = λ _. (back, refl, high); moved = omega arith };
+      front = record { each = λ i u e. subst (λ x. Stands o.bytes.from 0 x.alone x.front) (only_view v u i e) (starts o.bytes.from (o.first_low - o.bytes.from)); rest = λ _. (front, refl, low); moved = omega (arith, before) };
+      back = record { each = λ i u e. subst (λ x. Stands (o.capacity - end_of o.bytes) 0 x.alone x.back) (only_view v u i e) (starts (o.capacity - end_of o.bytes) (end_of o.bytes - o.first_high)); rest = λ _. (back, refl, high); moved = omega (arith, fits, behind) };
       views = record {
         ranges = λ i u e. subst (IsRange o) (only_view v u i e) (record { block = refl; capacity = refl; length = omega (arith, fits) });
         agree = λ i j a b e f. subst (λ x. Agree x b) (only_view v a i e) (subst (Agree v) (only_view v b j f) (agree_self v));
@@ -285,12 +299,14 @@ opens o front back fits low high =
       };
       model = model_opens o fits;
       within = fits;
+      low = before;
+      high = behind;
     }
 
-pub opens_at : (o : Opening) (a b : ℕ) (given : List End) (front back : End) → given ≡ front ∷ back ∷ [] → a ≡ o.bytes.from → end_of o.bytes + b ≡ o.capacity
+pub opens_at : (o : Opening) (a b : ℕ) (given : List End) (front back : End) → given ≡ front ∷ back ∷ [] → a ≡ o.bytes.from → end_of o.bytes + b ≡ o.capacity → o.bytes.from ≤ o.first_low → o.first_high ≤ end_of o.bytes
     → front.free ≡ first_places o.bytes.block o.capacity a → back.free ≡ last_places o.bytes.block o.capacity b → BlockInvariant o (opening (a ∷ b ∷ []) given (first_view o))
-opens_at o a b given front back both is_a is_b low high =
+opens_at o a b given front back both is_a is_b before behind low high =
     let from : o.bytes.from ≡ a = sym is_a in
     let room : o.capacity - end_of o.bytes ≡ b = omega (arith, is_b) in
     subst (BlockInvariant o) (λ i. opening (from i ∷ room i ∷ []) (sym both i) (first_view o))
-    (opens o front back (omega (arith, is_b)) (low ∙ ap (first_places o.bytes.block o.capacity) is_a) (high ∙ ap (last_places o.bytes.block o.capacity) (sym room)))
+    (opens o front back (omega (arith, is_b)) before behind (low ∙ ap (first_places o.bytes.block o.capacity) is_a) (high ∙ ap (last_places o.bytes.block o.capacity) (sym room)))

@@ -1,5 +1,5 @@
 -- A block whose free places lie in a table.
-use Rattle.std.specs.Prelude.{◌≡◌, ◌-◌, List, [], ◌∷◌}
+use Rattle.std.specs.Prelude.{◌≡◌, ℕ, ◌-◌, List, [], ◌∷◌}
 use Rattle.byte_block.specs.Ranges.{Free, Whole, end_of, frozen_of}
 use Rattle.edge_claims.specs.Rule.{first_places, last_places, first_view}
 use Rattle.edge_claims.specs.declared.view.End.{End}
@@ -19,13 +19,14 @@ pub record ListsEnds (before behind : Free) (l : List End) : Type 0 where
   pub before_low : low.free ≡ before
   pub behind_high : high.free ≡ behind
 
-abbrev pub opening_of : Whole → Opening
-opening_of b = record { bytes = frozen_of b; capacity = b.capacity }
+abbrev pub opening_of : Whole → ℕ → ℕ → Opening
+opening_of b low high = record { bytes = frozen_of b; capacity = b.capacity; first_low = low; first_high = high }
 
--- the table is of the block's free places, and its one seat knows the block
-pub record IsOpened (b : Whole) (o : Opened) : Type 0 where
+-- the table is of the free places of a block whose edges were first at low and high, and its one seat knows the block
+pub record IsOpened (b : Whole) (low high : ℕ) (o : Opened) : Type 0 where
   pub table : o.seat.table_id ≡ o.edges.value.shared.table_id
   pub words : o.edges.value.shared.table_id.words ≡ 2
   pub slots : o.edges.value.shared.table_id.slots ≡ 2
-  pub seat : o.seat.me ≡ (first_view (opening_of b), [])
+  pub key : o.edges.value.shared.key ≡ opening_of b low high
+  pub seat : o.seat.me ≡ (first_view (opening_of b low high), [])
   pub bytes : o.bytes ≡ frozen_of b

@@ -5,7 +5,7 @@ use mathlib.Core.Option.{Option, some}
 use lib.ListN.{get_elem?}
 use Rattle.byte_block.specs.Ranges.{Block, Free, end_of}
 use Rattle.atomic_table.specs.Table.{State}
-use Rattle.edge_claims.specs.Sides.{Side, fresh, Stands}
+use Rattle.edge_claims.specs.Sides.{Side, begun, Stands}
 use Rattle.edge_claims.specs.BlockModel.{ModelWindow, BlockModel, Event, made, Runs, BlockLaw}
 use Rattle.edge_claims.specs.declared.view.End.{End}
 use Rattle.edge_claims.specs.declared.view.View.{View}
@@ -24,8 +24,17 @@ front_of v = v.front
 abbrev pub back_of : View → Side
 back_of v = v.back
 
+-- the block's first window, which has claimed what its edges have moved since the block was made
 abbrev pub first_view : Opening → View
-first_view o = record { block = o.bytes.block; capacity = o.capacity; bytes = o.bytes.bytes; front = fresh o.bytes.from; back = fresh (o.capacity - end_of o.bytes); alone = true }
+first_view o =
+    record {
+      block = o.bytes.block;
+      capacity = o.capacity;
+      bytes = o.bytes.bytes;
+      front = begun o.bytes.from (o.first_low - o.bytes.from);
+      back = begun (o.capacity - end_of o.bytes) (end_of o.bytes - o.first_high);
+      alone = true;
+    }
 
 -- all views together
 abbrev pub total : (View → ℕ) → List View → ℕ
@@ -38,11 +47,12 @@ module _ (side : View → Side) where
   abbrev pub claims : View → ℕ
   claims v = (side v).claims
 
-  -- one side: `room` of `opened` places are free still. What is being filled is one window's, and where nothing is, the free places are at home.
-  pub record KeepsSide (free : ℕ → Free) (opened room : ℕ) (home : Option End) (vs : List View) : Type 0 where
+  -- One side: of the places that were free when the block was made `room` are free still, and the windows have claimed the others. What is being filled is one window's,
+  -- and where nothing is, the free places are at home.
+  pub record KeepsSide (free : ℕ → Free) (first room : ℕ) (home : Option End) (vs : List View) : Type 0 where
     pub each : (i : ℕ) (v : View) → get_elem? vs i ≡ some v → Stands room (total carving vs) v.alone (side v)
     pub rest : total carving vs ≡ 0 → (e : End) × (home ≡ some e) × (e.free ≡ free room)
-    pub moved : total claims vs + room ≡ opened
+    pub moved : total claims vs + room ≡ first
 
 -- the view's bytes fill the places between its two gaps
 pub record IsRange (o : Opening) (v : View) : Type 0 where
@@ -78,13 +88,15 @@ pub record StandsForModel (o : Opening) (front_room back_room : ℕ) (vs : List 
 -- The block invariant: both sides, all windows, and the block model that they stand for. It holds between any two atomic steps.
 pub record BlockInvariant (o : Opening) (s : State End View) : Type 0 where
   pub within : end_of o.bytes ≤ o.capacity
+  pub low : o.bytes.from ≤ o.first_low
+  pub high : o.first_high ≤ end_of o.bytes
   pub front_room : ℕ
   pub back_room : ℕ
   pub front_home : Option End
   pub back_home : Option End
   pub words : s.words ≡ front_room ∷ back_room ∷ []
   pub homes : s.homes ≡ front_home ∷ back_home ∷ []
-  pub front : KeepsSide front_of (first_places o.bytes.block o.capacity) o.bytes.from front_room front_home s.views
-  pub back : KeepsSide back_of (last_places o.bytes.block o.capacity) (o.capacity - end_of o.bytes) back_room back_home s.views
+  pub front : KeepsSide front_of (first_places o.bytes.block o.capacity) o.first_low front_room front_home s.views
+  pub back : KeepsSide back_of (last_places o.bytes.block o.capacity) (o.capacity - o.first_high) back_room back_home s.views
   pub views : KeepsViews o s.views
   pub model : StandsForModel o front_room back_room s.views

@@ -20,7 +20,9 @@ seen_of w =
       low_seen = v.front.seen;
       high_seen = v.capacity - v.back.seen;
       alone = v.alone;
-      claims = w.claimed + (v.front.claims + v.back.claims);
+      claims = v.front.claims + v.back.claims;
+      first_low = w.edges.value.shared.key.first_low;
+      first_high = w.edges.value.shared.key.first_high;
     }
 
 -- The seat is the table's and holds nothing, the frozen bytes are its view's, and the window lies within them.

@@ -14,14 +14,17 @@ seen_of_sole w = record {
   low_seen = w.block.from;
   high_seen = w.block.from + length w.block.bytes;
   alone = true;
-  claims = w.claimed;
+  claims = (w.first_low - w.block.from) + (w.block.from + length w.block.bytes - w.first_high);
+  first_low = w.first_low;
+  first_high = w.first_high;
 }
 
--- The window lies within the bytes of its block, and has claimed no more places than these have.
+-- The window lies within the bytes of its block, whose edges have only moved outwards since it was made.
 pub record IsSole (w : Inside) : Type 0 where
   pub start : w.block.from ≤ w.start
   pub ordered : w.start ≤ w.end
   pub end : w.end ≤ w.block.from + length w.block.bytes
   pub within : w.block.from + length w.block.bytes ≤ w.block.capacity
   pub small : w.block.capacity ≤ LARGEST
-  pub claimed : w.claimed ≤ length w.block.bytes
+  pub low : w.block.from ≤ w.first_low
+  pub high : w.first_high ≤ w.block.from + length w.block.bytes

@@ -35,10 +35,18 @@ struct Ends {
 }
 
 impl Opened {
-    /// Where memory is wanting, the block comes back.
-    pub(crate) fn of(alloc: Global, block: WholeBlock) -> Result<Opened, WholeBlock>
-        requires { block.from + length block.bytes ≤ block.capacity }
-        ensures ok { IfOk result (IsOpened block) }
+    /// A block whose edges stood at `first_low` and `first_high` when it was made. Where memory is wanting,
+    /// it comes back.
+    pub(crate) fn of(
+        alloc: Global,
+        block: WholeBlock,
+        first_low: u32,
+        first_high: u32,
+    ) -> Result<Opened, WholeBlock>
+        requires within { block.from + length block.bytes ≤ block.capacity }
+        requires low { block.from ≤ first_low }
+        requires high { first_high ≤ block.from + length block.bytes }
+        ensures ok { IfOk result (IsOpened block first_low first_high) }
         ensures err { IfErr result (λ b. b ≡ block) }
     {
         let rooms = [
@@ -47,7 +55,12 @@ impl Opened {
         ];
         let capacity = block.capacity();
         let (low, bytes, high) = block.into_ranges()?;
-        let opening = Opening { bytes, capacity };
+        let opening = Opening {
+            bytes,
+            capacity,
+            first_low,
+            first_high,
+        };
         match lay(alloc, &rooms, Ends { low, high }, &opening) {
             Ok((edges, seat)) => Ok(Opened {
                 edges,
@@ -69,8 +82,11 @@ fn lay(
     requires rooms { rooms.now ≡ opening.now.bytes.from ∷ (opening.now.capacity - end_of opening.now.bytes) ∷ [] }
     requires ends { AreEnds opening.now ends.low ends.high }
     requires within { end_of opening.now.bytes ≤ opening.now.capacity }
+    requires low { opening.now.bytes.from ≤ opening.now.first_low }
+    requires high { opening.now.first_high ≤ end_of opening.now.bytes }
     ensures table { IfOk result (λ t. t.1.table_id ≡ t.0.value.shared.table_id) }
     ensures counts { IfOk result (λ t. (t.0.value.shared.table_id.words ≡ 2) × (t.0.value.shared.table_id.slots ≡ 2)) }
+    ensures key { IfOk result (λ t. t.0.value.shared.key ≡ opening.now) }
     ensures seat { IfOk result (λ t. t.1.me ≡ (first_view opening.now, [])) }
     ensures err { IfErr result (λ e. (e.low ≡ ends.low) × (e.high ≡ ends.high)) }
 {
@@ -132,7 +148,7 @@ fn counted(
     }
 }
 
-// The free places of a table that only its first seat has ever used, and that has claimed nothing.
+// The free places of a table that only its first seat has ever used, and that has claimed nothing since.
 fn taken_back(edges: Edges, seat: Seat<End, View>) -> Ends
     requires table { seat.table_id ≡ edges.shared.table_id }
     requires counts { (edges.shared.table_id.words ≡ 2) × (edges.shared.table_id.slots ≡ 2) }

@@ -31,7 +31,6 @@ pub(crate) struct SharedWindow {
     start: u32,
     end: u32,
     capacity: u32,
-    claimed: u32,
 }
 
 impl Model for SharedWindow {
@@ -61,10 +60,11 @@ impl SharedWindow {
             block,
             start,
             end,
-            claimed,
+            first_low,
+            first_high,
         } = sole;
         let capacity = block.capacity();
-        match Opened::of(alloc, block) {
+        match Opened::of(alloc, block, first_low, first_high) {
             Ok(Opened { edges, seat, bytes }) => Ok(SharedWindow {
                 edges,
                 seat,
@@ -72,14 +72,14 @@ impl SharedWindow {
                 start,
                 end,
                 capacity,
-                claimed,
             }),
             Err(block) => Err(SoleWindow {
                 alloc,
                 block,
                 start,
                 end,
-                claimed,
+                first_low,
+                first_high,
             }),
         }
     }
@@ -110,7 +110,6 @@ impl SharedWindow {
             start: self.start,
             end: self.end,
             capacity: self.capacity,
-            claimed: 0,
         })
     }
 

@@ -1,6 +1,6 @@
 //! The only window that a block has ever had.
 
-ghost use Rattle.std.specs.Prelude.{◌≡◌, ◌+◌, ◌≤◌, length, IfOk, IfErr, IsOk, OnOk};
+ghost use Rattle.std.specs.Prelude.{◌≡◌, ◌+◌, ◌-◌, ◌≤◌, length, take, true, false, IfOk, IfErr, IsOk, OnOk};
 ghost use Rattle.byte_block.specs.Ranges.{LARGEST};
 
 use crate::window::Grow;
@@ -9,7 +9,11 @@ use sim_base::NoMemory;
 use std::alloc::Global;
 use std::marker::Model;
 
-/// Bytes of a block that no other window has. It holds the block's free places itself.
+// How many bytes are set aside at most while the places of a block are taken anew.
+const ASIDE: usize = 64;
+
+/// Bytes of a block that no other window has. It holds the block's free places itself, and remembers where
+/// the block's edges stood when it was made.
 ///
 /// ```text
 /// 0            from      start            end      to          capacity
@@ -21,7 +25,8 @@ pub(crate) struct SoleWindow {
     pub(crate) block: WholeBlock,
     pub(crate) start: u32,
     pub(crate) end: u32,
-    pub(crate) claimed: u32,
+    pub(crate) first_low: u32,
+    pub(crate) first_high: u32,
 }
 
 impl Model for SoleWindow {
@@ -55,7 +60,8 @@ impl SoleWindow {
             block: WholeBlock::make(alloc, front, bytes, back)?,
             start: front,
             end: front + bytes.len() as u32,
-            claimed: 0,
+            first_low: front,
+            first_high: front + bytes.len() as u32,
         })
     }
 
@@ -88,7 +94,6 @@ impl SoleWindow {
         }
         self.block.freeze_before(bytes);
         self.start -= bytes.len() as u32;
-        self.claimed += bytes.len() as u32;
         Ok(())
     }
 
@@ -112,8 +117,31 @@ impl SoleWindow {
         }
         self.block.freeze_behind(bytes);
         self.end += bytes.len() as u32;
-        self.claimed += bytes.len() as u32;
         Ok(())
+    }
+
+    /// Takes all places of the block anew, as those of a block just made: the window's bytes then stand at
+    /// `front`. False where there are more than 64, or no room for them there; the window then stays.
+    pub(crate) fn renew(&mut self, front: u32) -> bool
+        requires { front ≤ LARGEST }
+        ensures renewed { result ≡ true → IsNew front self.old.bytes (self.old.capacity - (front + length self.old.bytes)) self.new }
+        ensures capacity { self.new.capacity ≡ self.old.capacity }
+        ensures refused { result ≡ false → self.new ≡ self.old }
+    {
+        let len = self.end - self.start;
+        if len as usize > ASIDE || front + len > self.block.capacity() {
+            return false;
+        }
+        let aside = set_aside(self.as_slice());
+        if !self.block.renew(front) {
+            return false;
+        }
+        self.block.freeze_behind(&aside[..len as usize]);
+        self.start = front;
+        self.end = front + len;
+        self.first_low = front;
+        self.first_high = front + len;
+        true
     }
 
     /// Leaves off the first `n` bytes.
@@ -131,4 +159,13 @@ impl SoleWindow {
     {
         self.end -= n;
     }
+}
+
+fn set_aside(bytes: &[u8]) -> [u8; ASIDE]
+    requires { length bytes.now ≤ ASIDE }
+    ensures { take (length bytes.now) result ≡ bytes.now }
+{
+    let mut aside = [0; ASIDE];
+    aside[..bytes.len()].copy_from_slice(bytes);
+    aside
 }

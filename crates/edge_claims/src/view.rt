@@ -9,11 +9,14 @@ use atomic_table::TableRule;
 use byte_block::{FreeRange, FrozenRange};
 use std::marker::Model;
 
-/// The block as it was made: its first window's bytes, and how many places it has.
+/// The block as its free places were laid out: its first window's bytes, how many places it has, and where
+/// its edges stood when it was made.
 #[derive(Drop)]
 pub struct Opening {
     pub bytes: FrozenRange,
     pub capacity: u32,
+    pub first_low: u32,
+    pub first_high: u32,
 }
 
 /// The bytes that were written last, for the proofs alone.

@@ -1,6 +1,6 @@
 //! A window on a block, and how it grows.
 
-ghost use Rattle.std.specs.Prelude.{◌≡◌, ◌+◌, ◌≤◌, length, true, IfOk, IfErr, IsOk, OnOk, OnErr};
+ghost use Rattle.std.specs.Prelude.{◌≡◌, ◌+◌, ◌-◌, ◌≤◌, length, true, false, IfOk, IfErr, IsOk, OnOk, OnErr};
 ghost use Rattle.byte_block.specs.Ranges.{LARGEST};
 
 use crate::shared::SharedWindow;
@@ -145,6 +145,21 @@ impl Window {
         match &mut self.kind {
             Kind::Sole(window) => window.grow_back(bytes),
             Kind::Shared(window) => window.grow_back(bytes),
+        }
+    }
+
+    /// Takes all places of the block anew, as those of a block just made: the window's bytes then stand at
+    /// `front`. It takes no memory. False where the window was ever copied, has more than 64 bytes, or the block
+    /// has no room for them there; the window then stays.
+    pub fn renew(&mut self, front: u32) -> bool
+        requires { front ≤ LARGEST }
+        ensures renewed { result ≡ true → IsNew front self.old.bytes (self.old.capacity - (front + length self.old.bytes)) self.new }
+        ensures capacity { self.new.capacity ≡ self.old.capacity }
+        ensures refused { result ≡ false → self.new ≡ self.old }
+    {
+        match &mut self.kind {
+            Kind::Sole(window) => window.renew(front),
+            Kind::Shared(_) => false,
         }
     }
 

@@ -1,7 +1,7 @@
 //! The buffer: its two parts, the zeros between them, and what pushes, cuts and joins do to them.
 
 ghost use Rattle.std.specs.Prelude.{◌≡◌, ◌+◌, ◌-◌, ◌<◌, ◌≤◌, ◌++◌, length, take, drop, min, replicate, slice_range, IfOk, IsOk, OnOk, OnErr, Ok};
-ghost use Rattle.block_pool.specs.Spare.{taken, taken_for, HasSpareFor};
+ghost use Rattle.block_pool.specs.Spare.{taken, taken_for, HasSpareFor, TakesOne};
 ghost use Rattle.block_pool.specs.declared.class.Class.TheVariants.{Small};
 ghost use Rattle.edge_claims.specs.Grown.{copied, shared, GrownFront};
 ghost use Rattle.zero_buffer.specs.Contents.{Contents, ready, with_window, ZerosMeet, LONGEST};
@@ -47,6 +47,7 @@ impl Buffer {
     pub fn zeros(alloc: Global, pool: &mut Pool, n: u32) -> Result<Buffer, NoMemory>
         requires { n ≤ LONGEST }
         ensures bytes { IfOk result (λ b. b.bytes ≡ replicate n 0) }
+        ensures zeros { IfOk result (λ b. b.zeros ≡ n) }
         ensures ready { IfOk result (λ b. ready b ≡ 64) }
         ensures succeeds { 0 < pool.old.small → IsOk result }
         ensures pool { pool.new ≡ taken Small pool.old }
@@ -63,6 +64,7 @@ impl Buffer {
     pub fn from_bytes(alloc: Global, pool: &mut Pool, bytes: &[u8]) -> Result<Buffer, NoMemory>
         requires { length bytes.now ≤ LONGEST }
         ensures bytes { IfOk result (λ b. b.bytes ≡ bytes.now) }
+        ensures zeros { IfOk result (λ b. b.zeros ≡ 0) }
         ensures ready { IfOk result (λ b. ready b ≡ 64) }
         ensures succeeds { HasSpareFor (length bytes.now) pool.old → IsOk result }
         ensures pool { pool.new ≡ taken_for (length bytes.now) pool.old }
@@ -99,6 +101,7 @@ impl Buffer {
         ensures empty { length bytes.now ≡ 0 → (result ≡ Ok InPlace) × (self.new ≡ self.old) }
         ensures ready { 0 < length bytes.now → length bytes.now ≤ ready self.old → (result ≡ Ok InPlace) × (ready self.new + length bytes.now ≡ ready self.old) }
         ensures pool { result ≡ Ok InPlace → pool.new ≡ pool.old }
+        ensures taken { TakesOne pool.old pool.new }
     {
         let grown = grow_front(&mut self.window, self.alloc, pool, bytes)?;
         self.first += bytes.len() as u32;
@@ -113,6 +116,7 @@ impl Buffer {
         ensures err { OnErr result ((self.new.bytes ≡ self.old.bytes) × RefusedBack (length bytes.now) self.old.window self.new.window) }
         ensures empty { length bytes.now ≡ 0 → (result ≡ Ok InPlace) × (self.new ≡ self.old) }
         ensures pool { result ≡ Ok InPlace → pool.new ≡ pool.old }
+        ensures taken { TakesOne pool.old pool.new }
     {
         grow_back(&mut self.window, self.alloc, pool, bytes)
     }
@@ -127,12 +131,25 @@ impl Buffer {
         self.leave_off(from);
     }
 
+    /// Leaves off the first `n` bytes.
+    pub fn leave_off(&mut self, n: u32)
+        requires { n ≤ length self.old.bytes }
+        ensures { self.new.bytes ≡ drop n self.old.bytes }
+    {
+        let beyond = n.saturating_sub(self.first);
+        let of_last = beyond.saturating_sub(self.zeros);
+        self.window.trim_front(n.min(self.first) + of_last);
+        self.first = self.first.saturating_sub(n);
+        self.zeros = self.zeros.saturating_sub(beyond);
+    }
+
     /// Appends the bytes of another buffer. Its zeros stay counted where one area of zeros can hold those
     /// of both, and are written out else.
     pub fn join(&mut self, pool: &mut Pool, other: &Buffer) -> Result<(), NoMemory>
         requires { length self.old.bytes + length other.now.bytes ≤ LONGEST }
         ensures ok { OnOk result (self.new.bytes ≡ self.old.bytes ++ other.now.bytes) }
         ensures err { OnErr result (self.new.bytes ≡ self.old.bytes) }
+        ensures taken { TakesOne pool.old pool.new }
     {
         if other.zeros == 0 {
             self.push_back(pool, other.window.as_slice())?;
@@ -200,24 +217,13 @@ impl Buffer {
         self.zeros = self.zeros.min(beyond);
     }
 
-    // Leaves off the first `n` bytes.
-    fn leave_off(&mut self, n: u32)
-        requires { n ≤ length self.old.bytes }
-        ensures { self.new.bytes ≡ drop n self.old.bytes }
-    {
-        let beyond = n.saturating_sub(self.first);
-        let of_last = beyond.saturating_sub(self.zeros);
-        self.window.trim_front(n.min(self.first) + of_last);
-        self.first = self.first.saturating_sub(n);
-        self.zeros = self.zeros.saturating_sub(beyond);
-    }
-
     // Appends the bytes of a buffer whose zeros this one can count with its own, or alone.
     fn adopt(&mut self, pool: &mut Pool, other: &Buffer) -> Result<(), NoMemory>
         requires room { length self.old.bytes + length other.now.bytes ≤ LONGEST }
         requires beside { ZerosMeet self.old other.now }
         ensures ok { OnOk result (self.new.bytes ≡ self.old.bytes ++ other.now.bytes) }
         ensures err { OnErr result (self.new.bytes ≡ self.old.bytes) }
+        ensures taken { TakesOne pool.old pool.new }
     {
         let shown = self.window.as_slice().len() as u32;
         grow_back(&mut self.window, self.alloc, pool, other.window.as_slice())?;

@@ -12,4 +12,4 @@ new-requires c =
     let list = c.in_ok-list.ensures.ok in
     let within = c.requires.within in
     subst (λ (ws : List ℕ). BlockInvariant o (opening ws c.in_ok-list.list.items (first_view o))) (sym c.requires.rooms)
-    (opens_at o o.bytes.from (o.capacity - end_of o.bytes) c.in_ok-list.list.items list.low list.high list.two refl (omega (arith, within)) (list.before_low ∙ c.requires.ends.low) (list.behind_high ∙ c.requires.ends.high))
+    (opens_at o o.bytes.from (o.capacity - end_of o.bytes) c.in_ok-list.list.items list.low list.high list.two refl (omega (arith, within)) c.requires.low c.requires.high (list.before_low ∙ c.requires.ends.low) (list.behind_high ∙ c.requires.ends.high))
