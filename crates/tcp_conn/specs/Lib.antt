@@ -1,4 +1,5 @@
 pub mod Begin
+pub mod Clock
 pub mod Ends
 pub mod Fits
 pub mod Following

@@ -1,6 +1,7 @@
 //! What a segment acknowledges (RFC 9293, 3.10.7.4, fifth).
 
 ghost use Rattle.std.specs.Prelude.{◌≡◌, ◌≤◌, ◌<◌, ◌-◌, ◌^◌, ◌++◌, length, OnOk};
+ghost use Rattle.tcp_conn.specs.Clock.{latest};
 ghost use Rattle.tcp_conn.specs.Fits.{Fits, past};
 ghost use Rattle.tcp_conn.specs.Step.{acked_phase, acks, advanced, counted_ack, dup_ack, goes_on, is_duplicate, moved_on, new_ack, sampled, settled};
 
@@ -21,7 +22,7 @@ impl Connection {
         bytes: &[u8],
         out: &mut Vec<Effect>,
     ) -> Result<(), NoMemory>
-        requires time { now.0 ≤ 2 ^ 60 }
+        requires time { now.0 ≤ latest }
         requires fits { Fits self.old }
         ensures now { OnOk result (self.new ≡ (acks now.0 heard.now bytes.now self.old).now) }
         ensures effects { OnOk result (out.new.items ≡ out.old.items ++ (acks now.0 heard.now bytes.now self.old).effects) }
@@ -46,7 +47,7 @@ impl Connection {
         bytes: &[u8],
         out: &mut Vec<Effect>,
     ) -> Result<(), NoMemory>
-        requires time { now.0 ≤ 2 ^ 60 }
+        requires time { now.0 ≤ latest }
         requires fits { Fits self.old }
         requires known { self.old.una ≤ heard.now.ack }
         requires sent { heard.now.ack ≤ self.old.max }
@@ -74,7 +75,7 @@ impl Connection {
         ack: u64,
         out: &mut Vec<Effect>,
     ) -> Result<(), NoMemory>
-        requires time { now.0 ≤ 2 ^ 60 }
+        requires time { now.0 ≤ latest }
         requires fits { Fits self.old }
         requires ack { ack < 2 ^ 32 }
         requires more { self.old.una ≤ ack }
@@ -92,7 +93,7 @@ impl Connection {
     /// Gives up what is acknowledged: with a sample, and the state and the timer that follow.
     #[tactic(auto, unfolding(crate::specs::Step::settled))]
     fn settle(&mut self, now: Time, ack: u64, out: &mut Vec<Effect>) -> Result<(), NoMemory>
-        requires time { now.0 ≤ 2 ^ 60 }
+        requires time { now.0 ≤ latest }
         requires fits { Fits self.old }
         requires ack { ack < 2 ^ 32 }
         requires more { self.old.una ≤ ack }
@@ -110,7 +111,7 @@ impl Connection {
 
     /// A timed segment that is covered gives a sample.
     fn sample(&mut self, now: Time, ack: u64)
-        requires time { now.0 ≤ 2 ^ 60 }
+        requires time { now.0 ≤ latest }
         requires fits { Fits self.old }
         ensures now { self.new ≡ sampled now.0 ack self.old.timed self.old }
         ensures fits { Fits self.new }
@@ -158,7 +159,7 @@ impl Connection {
         acked: u64,
         out: &mut Vec<Effect>,
     ) -> Result<(), NoMemory>
-        requires time { now.0 ≤ 2 ^ 60 }
+        requires time { now.0 ≤ latest }
         requires fits { Fits self.old }
         ensures now { OnOk result (self.new ≡ (goes_on now.0 ack acked self.old).now) }
         ensures effects { OnOk result (out.new.items ≡ out.old.items ++ (goes_on now.0 ack acked self.old).effects) }
@@ -193,7 +194,7 @@ impl Connection {
         ack: u64,
         out: &mut Vec<Effect>,
     ) -> Result<(), NoMemory>
-        requires time { now.0 ≤ 2 ^ 60 }
+        requires time { now.0 ≤ latest }
         requires fits { Fits self.old }
         ensures now { OnOk result (self.new ≡ (dup_ack now.0 ack self.old).now) }
         ensures effects { OnOk result (out.new.items ≡ out.old.items ++ (dup_ack now.0 ack self.old).effects) }

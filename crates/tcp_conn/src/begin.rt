@@ -1,6 +1,7 @@
 //! What begins a connection, and what its application does (RFC 9293, 3.10.1 to 3.10.4).
 
 ghost use Rattle.std.specs.Prelude.{◌≡◌, ◌≤◌, ◌<◌, ◌+◌, ◌^◌, ◌++◌, true, false, OnOk, IfOk};
+ghost use Rattle.tcp_conn.specs.Clock.{latest};
 ghost use Rattle.tcp_conn.specs.Begin.{begun, closes, heard_syn, opening, with_bytes, writes};
 ghost use Rattle.tcp_conn.specs.Fits.{Fits};
 
@@ -56,7 +57,7 @@ impl Connection {
         mss: u32,
         out: &mut Vec<Effect>,
     ) -> Result<Connection, NoMemory>
-        requires time { now.0 ≤ 2 ^ 60 }
+        requires time { now.0 ≤ latest }
         requires least { 64 ≤ mss }
         requires greatest { mss ≤ 9000 }
         ensures now { IfOk result (λ c. c ≡ (opening now.0 mss).now) }
@@ -71,7 +72,7 @@ impl Connection {
     /// Answers the SYN of a new connection on a listening port.
     #[tactic(auto, unfolding(crate::specs::Begin::heard_syn))]
     pub fn accept(alloc: Global, now: Time, out: &mut Vec<Effect>) -> Result<Connection, NoMemory>
-        requires { now.0 ≤ 2 ^ 60 }
+        requires { now.0 ≤ latest }
         ensures now { IfOk result (λ c. c ≡ (heard_syn now.0).now) }
         ensures effects { OnOk result (out.new.items ≡ out.old.items ++ (heard_syn now.0).effects) }
         ensures fits { IfOk result (λ c. Fits c) }
@@ -90,7 +91,7 @@ impl Connection {
         bytes: &[u8],
         out: &mut Vec<Effect>,
     ) -> Result<(), NoMemory>
-        requires time { now.0 ≤ 2 ^ 60 }
+        requires time { now.0 ≤ latest }
         requires fits { Fits self.old }
         ensures now { OnOk result (self.new ≡ (writes now.0 bytes.now self.old).now) }
         ensures effects { OnOk result (out.new.items ≡ out.old.items ++ (writes now.0 bytes.now self.old).effects) }
@@ -119,7 +120,7 @@ impl Connection {
     /// Nothing more will be written.
     #[tactic(auto, unfolding(crate::specs::Begin::closes))]
     pub fn close(&mut self, now: Time, out: &mut Vec<Effect>) -> Result<(), NoMemory>
-        requires time { now.0 ≤ 2 ^ 60 }
+        requires time { now.0 ≤ latest }
         requires fits { Fits self.old }
         ensures now { OnOk result (self.new ≡ (closes now.0 self.old).now) }
         ensures effects { OnOk result (out.new.items ≡ out.old.items ++ (closes now.0 self.old).effects) }

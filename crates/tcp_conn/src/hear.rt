@@ -1,6 +1,7 @@
 //! A segment comes (RFC 9293, 3.10.7).
 
 ghost use Rattle.std.specs.Prelude.{◌≡◌, ◌≤◌, ◌<◌, ◌^◌, ◌++◌, ◌∷◌, [], List, length, OnOk};
+ghost use Rattle.tcp_conn.specs.Clock.{latest};
 ghost use Rattle.tcp_conn.specs.Fits.{Fits, past};
 ghost use Rattle.tcp_conn.specs.Step.{agreed_size, answers_syn, dropped, established, hears, hears_reset, in_later_states, in_syn_sent, named_size, reset};
 
@@ -21,7 +22,7 @@ impl Connection {
         bytes: &[u8],
         out: &mut Vec<Effect>,
     ) -> Result<(), NoMemory>
-        requires time { now.0 ≤ 2 ^ 60 }
+        requires time { now.0 ≤ latest }
         requires fits { Fits self.old }
         requires bytes { length bytes.now < 2 ^ 32 }
         ensures now { OnOk result (self.new ≡ (hears now.0 heard.now bytes.now self.old).now) }
@@ -42,7 +43,7 @@ impl Connection {
         heard: &Heard,
         out: &mut Vec<Effect>,
     ) -> Result<(), NoMemory>
-        requires time { now.0 ≤ 2 ^ 60 }
+        requires time { now.0 ≤ latest }
         requires fits { Fits self.old }
         requires phase { past self.old.phase ≡ 0 }
         ensures now { OnOk result (self.new ≡ (in_syn_sent now.0 heard.now self.old).now) }
@@ -87,7 +88,7 @@ impl Connection {
         bytes: &[u8],
         out: &mut Vec<Effect>,
     ) -> Result<(), NoMemory>
-        requires time { now.0 ≤ 2 ^ 60 }
+        requires time { now.0 ≤ latest }
         requires fits { Fits self.old }
         requires bytes { length bytes.now < 2 ^ 32 }
         ensures now { OnOk result (self.new ≡ (in_later_states now.0 heard.now bytes.now self.old).now) }
@@ -137,7 +138,7 @@ impl Connection {
 
     /// A SYN that comes again is answered.
     fn answer_syn(&mut self, now: Time, out: &mut Vec<Effect>) -> Result<(), NoMemory>
-        requires time { now.0 ≤ 2 ^ 60 }
+        requires time { now.0 ≤ latest }
         requires fits { Fits self.old }
         ensures now { OnOk result (self.new ≡ (answers_syn now.0 self.old.phase self.old).now) }
         ensures effects { OnOk result (out.new.items ≡ out.old.items ++ (answers_syn now.0 self.old.phase self.old).effects) }

@@ -19,6 +19,3 @@ pub use connection::{Connection, Phase, Timed};
 pub use law::{deliveries_are_a_prefix, sinks_follow_the_law};
 pub use round_trip::RoundTrip;
 pub use words::{Effect, Heard, Outgoing};
-
-#[cfg(test)]
-mod tests;

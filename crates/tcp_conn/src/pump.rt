@@ -1,6 +1,7 @@
 //! What the windows let a connection send, and what congestion control sends again.
 
 ghost use Rattle.std.specs.Prelude.{◌≡◌, ◌≤◌, ◌<◌, ◌+◌, ◌-◌, ◌^◌, ◌++◌, true, OnOk};
+ghost use Rattle.tcp_conn.specs.Clock.{latest};
 ghost use Rattle.tcp_conn.specs.Fits.{Fits, past};
 ghost use Rattle.tcp_conn.specs.Send.{controlled, data_sent, fin_sent, first_size, may_send, next_size, pumped, resent, sends_data, written_end};
 
@@ -13,7 +14,7 @@ use tcp_reno::RenoIn;
 impl Connection {
     /// Sends all that may be sent now.
     pub(crate) fn pump(&mut self, now: Time, out: &mut Vec<Effect>) -> Result<(), NoMemory>
-        requires time { now.0 ≤ 2 ^ 60 }
+        requires time { now.0 ≤ latest }
         requires fits { Fits self.old }
         ensures now { OnOk result (self.new ≡ (pumped now.0 self.old).now) }
         ensures effects { OnOk result (out.new.items ≡ out.old.items ++ (pumped now.0 self.old).effects) }
@@ -28,7 +29,7 @@ impl Connection {
 
     /// Sends segments of data while the windows let them go.
     fn send_data(&mut self, now: Time, out: &mut Vec<Effect>) -> Result<(), NoMemory>
-        requires time { now.0 ≤ 2 ^ 60 }
+        requires time { now.0 ≤ latest }
         requires fits { Fits self.old }
         ensures now { OnOk result (self.new ≡ (data_sent now.0 (written_end self.old - self.old.nxt) self.old).now) }
         ensures effects { OnOk result (out.new.items ≡ out.old.items ++ (data_sent now.0 (written_end self.old - self.old.nxt) self.old).effects) }
@@ -44,7 +45,7 @@ impl Connection {
 
     /// Sends the FIN behind all data, after a close.
     fn send_fin(&mut self, now: Time, out: &mut Vec<Effect>) -> Result<(), NoMemory>
-        requires time { now.0 ≤ 2 ^ 60 }
+        requires time { now.0 ≤ latest }
         requires fits { Fits self.old }
         requires phase { past self.old.phase ≡ 0 }
         ensures now { OnOk result (self.new ≡ (fin_sent now.0 self.old).now) }
@@ -66,7 +67,7 @@ impl Connection {
         input: RenoIn,
         out: &mut Vec<Effect>,
     ) -> Result<(), NoMemory>
-        requires time { now.0 ≤ 2 ^ 60 }
+        requires time { now.0 ≤ latest }
         requires fits { Fits self.old }
         ensures now { OnOk result (self.new ≡ (controlled now.0 input self.old).now) }
         ensures effects { OnOk result (out.new.items ≡ out.old.items ++ (controlled now.0 input self.old).effects) }
@@ -82,7 +83,7 @@ impl Connection {
 
     /// Sends again what is first of what isn't acknowledged, if there is anything.
     fn resend(&mut self, now: Time, out: &mut Vec<Effect>) -> Result<(), NoMemory>
-        requires time { now.0 ≤ 2 ^ 60 }
+        requires time { now.0 ≤ latest }
         requires fits { Fits self.old }
         ensures now { OnOk result (self.new ≡ (resent now.0 self.old).now) }
         ensures effects { OnOk result (out.new.items ≡ out.old.items ++ (resent now.0 self.old).effects) }

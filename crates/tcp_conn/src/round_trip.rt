@@ -1,6 +1,7 @@
 //! How long a connection waits for an acknowledgement before it sends again (RFC 6298).
 
 ghost use Rattle.std.specs.Prelude.{◌≡◌, ◌≤◌, ◌*◌, ◌^◌};
+ghost use Rattle.tcp_conn.specs.Clock.{latest};
 ghost use Rattle.tcp_conn.specs.RoundTrip.{backed_off, timeout_of, unsampled, with_sample};
 
 use sim_base::Time;
@@ -20,6 +21,7 @@ pub struct RoundTrip {
 }
 
 impl Model for RoundTrip {
+    ghost use Rattle.tcp_conn.specs.Clock.{latest};
     ghost use Rattle.std.specs.Prelude.{◌≤◌, ◌*◌, ◌^◌};
     ghost use Rattle.tcp_conn.specs.RoundTrip.{Estimate};
 
@@ -27,7 +29,7 @@ impl Model for RoundTrip {
 
     ghost view = { λ t. record { srtt = t.srtt; rttvar = t.rttvar; rto = t.rto; sampled = t.sampled } };
 
-    ghost invariant = { λ t. (t.srtt ≤ 2 ^ 60) × (t.rttvar ≤ 2 ^ 60) × (10 ^ 9 ≤ t.rto) × (t.rto ≤ 60 * 10 ^ 9) };
+    ghost invariant = { λ t. (t.srtt ≤ latest) × (t.rttvar ≤ latest) × (10 ^ 9 ≤ t.rto) × (t.rto ≤ 60 * 10 ^ 9) };
 }
 
 impl RoundTrip {
@@ -68,7 +70,7 @@ impl RoundTrip {
 
     /// Takes the time from a segment to its acknowledgement.
     pub fn sample(&mut self, took: Time)
-        requires { took.0 ≤ 2 ^ 60 }
+        requires { took.0 ≤ latest }
         ensures { self.new ≡ with_sample took.0 self.old }
     {
         let r = took.0;
@@ -92,8 +94,8 @@ impl RoundTrip {
 }
 
 fn timeout_of(srtt: u64, rttvar: u64) -> u64
-    requires srtt_small { srtt ≤ 2 ^ 60 }
-    requires rttvar_small { rttvar ≤ 2 ^ 60 }
+    requires srtt_small { srtt ≤ latest }
+    requires rttvar_small { rttvar ≤ latest }
     ensures value { result ≡ timeout_of srtt rttvar }
     ensures least { 10 ^ 9 ≤ result }
     ensures greatest { result ≤ 60 * 10 ^ 9 }

@@ -1,6 +1,7 @@
 //! Sending: a segment at nxt, the one at una again, an acknowledgement, and what the windows let go.
 
 ghost use Rattle.std.specs.Prelude.{◌≡◌, ◌≤◌, ◌<◌, ◌+◌, ◌^◌, ◌++◌, List, [], ◌∷◌, OnOk, IfOk, Option, Some, None, if◌then◌else◌, Bool};
+ghost use Rattle.tcp_conn.specs.Clock.{latest};
 ghost use Rattle.tcp_conn.specs.Fits.{Fits, past};
 ghost use Rattle.tcp_conn.specs.Send.{acknowledged, controlled, data_sent, fin_sent, first_size, in_flight, may_send, next_size, one, outgoing, pumped, repeated, resent, room, sends_data, sent, timed_by, timer_at, timer_restarted, timer_started, written_end};
 
@@ -43,7 +44,7 @@ impl Connection {
 
     /// Starts the timer, where it doesn't run.
     fn start_timer(&mut self, now: Time, out: &mut Vec<Effect>) -> Result<(), NoMemory>
-        requires time { now.0 ≤ 2 ^ 60 }
+        requires time { now.0 ≤ latest }
         requires fits { Fits self.old }
         ensures now { OnOk result (self.new ≡ (timer_started now.0 self.old).now) }
         ensures fits { OnOk result (Fits self.new) }
@@ -60,7 +61,7 @@ impl Connection {
 
     /// Starts the timer anew, or stops it where nothing is left to be acknowledged.
     pub(crate) fn restart_timer(&mut self, now: Time, out: &mut Vec<Effect>) -> Result<(), NoMemory>
-        requires time { now.0 ≤ 2 ^ 60 }
+        requires time { now.0 ≤ latest }
         requires fits { Fits self.old }
         ensures now { OnOk result (self.new ≡ (timer_restarted now.0 self.old).now) }
         ensures fits { OnOk result (Fits self.new) }
@@ -77,7 +78,7 @@ impl Connection {
 
     /// When the timer fires that starts now.
     fn timeout(&self, now: Time) -> Time
-        requires { now.0 ≤ 2 ^ 60 }
+        requires { now.0 ≤ latest }
         ensures { result.0 ≡ now.0 + self.now.round_trip.rto }
     {
         Time(now.0 + self.round_trip.rto().0)
@@ -110,7 +111,7 @@ impl Connection {
         bytes: u64,
         out: &mut Vec<Effect>,
     ) -> Result<(), NoMemory>
-        requires time { now.0 ≤ 2 ^ 60 }
+        requires time { now.0 ≤ latest }
         requires order { self.old.una ≤ self.old.nxt }
         requires una { self.old.una < 2 ^ 32 }
         requires max { self.old.max ≤ 2 ^ 33 + past self.old.phase }
@@ -151,7 +152,7 @@ impl Connection {
         bytes: u64,
         out: &mut Vec<Effect>,
     ) -> Result<(), NoMemory>
-        requires time { now.0 ≤ 2 ^ 60 }
+        requires time { now.0 ≤ latest }
         requires fits { Fits self.old }
         ensures now { OnOk result (self.new ≡ (repeated now.0 syn fin bytes self.old).now) }
         ensures effects { OnOk result (out.new.items ≡ out.old.items ++ (repeated now.0 syn fin bytes self.old).effects) }

@@ -1,6 +1,7 @@
 //! What a segment brings (RFC 9293, 3.10.7.4, seventh and eighth).
 
 ghost use Rattle.std.specs.Prelude.{◌≡◌, ◌≤◌, ◌<◌, ◌+◌, ◌^◌, ◌++◌, length, map, if◌then◌else◌, [], ◌∷◌, OnOk, false};
+ghost use Rattle.tcp_conn.specs.Clock.{latest};
 ghost use Rattle.tcp_stream.specs.History.{delivery};
 ghost use Rattle.tcp_stream.specs.History.Told.{End as Ended};
 ghost use Rattle.tcp_stream.specs.Tells.{told_of};
@@ -24,7 +25,7 @@ impl Connection {
         bytes: &[u8],
         out: &mut Vec<Effect>,
     ) -> Result<(), NoMemory>
-        requires time { now.0 ≤ 2 ^ 60 }
+        requires time { now.0 ≤ latest }
         requires fits { Fits self.old }
         requires bytes { length bytes.now < 2 ^ 32 }
         ensures now { OnOk result (self.new ≡ (takes now.0 heard.now bytes.now self.old).now) }
@@ -80,7 +81,7 @@ impl Connection {
         bytes: &[u8],
         out: &mut Vec<Effect>,
     ) -> Result<(), NoMemory>
-        requires time { now.0 ≤ 2 ^ 60 }
+        requires time { now.0 ≤ latest }
         requires fits { Fits self.old }
         requires bytes { length bytes.now < 2 ^ 32 }
         ensures now { OnOk result (self.new ≡ (sink_takes now.0 heard.now bytes.now self.old.phase self.old).now) }
@@ -102,7 +103,7 @@ impl Connection {
         bytes: &[u8],
         out: &mut Vec<Effect>,
     ) -> Result<(), NoMemory>
-        requires time { now.0 ≤ 2 ^ 60 }
+        requires time { now.0 ≤ latest }
         requires fits { Fits self.old }
         requires bytes { length bytes.now < 2 ^ 32 }
         requires phase { past self.old.phase ≡ 0 }
@@ -141,7 +142,7 @@ impl Connection {
 
     /// Acknowledges, by the FIN where the end has come.
     fn answer(&mut self, now: Time, out: &mut Vec<Effect>) -> Result<(), NoMemory>
-        requires time { now.0 ≤ 2 ^ 60 }
+        requires time { now.0 ≤ latest }
         requires fits { Fits self.old }
         requires phase { past self.old.phase ≡ 0 }
         ensures now { OnOk result (self.new ≡ (answered now.0 self.old).now) }

@@ -1,6 +1,7 @@
 //! The retransmission timer fires (RFC 9293, 3.10.8).
 
 ghost use Rattle.std.specs.Prelude.{◌≡◌, ◌≤◌, ◌<◌, ◌+◌, ◌^◌, ◌++◌, OnOk};
+ghost use Rattle.tcp_conn.specs.Clock.{latest};
 ghost use Rattle.tcp_conn.specs.Fits.{Fits};
 ghost use Rattle.tcp_conn.specs.Step.{reset, sent_again, timed_out, times_out};
 
@@ -22,7 +23,7 @@ impl Connection {
         now: Time,
         out: &mut Vec<Effect>,
     ) -> Result<(), NoMemory>
-        requires time { now.0 ≤ 2 ^ 60 }
+        requires time { now.0 ≤ latest }
         requires fits { Fits self.old }
         ensures now { OnOk result (self.new ≡ (times_out now.0 self.old).now) }
         ensures effects { OnOk result (out.new.items ≡ out.old.items ++ (times_out now.0 self.old).effects) }
@@ -64,7 +65,7 @@ impl Connection {
 
     /// Sends again from una on: the SYN, the sink's FIN, or data as the windows let it go.
     fn send_again(&mut self, now: Time, out: &mut Vec<Effect>) -> Result<(), NoMemory>
-        requires time { now.0 ≤ 2 ^ 60 }
+        requires time { now.0 ≤ latest }
         requires fits { Fits self.old }
         requires back { self.old.nxt ≡ self.old.una }
         ensures now { OnOk result (self.new ≡ (sent_again now.0 self.old.phase self.old).now) }

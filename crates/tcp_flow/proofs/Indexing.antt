@@ -8,13 +8,14 @@ use Rattle.std.specs.Ordering.{nat_cmp}
 use Rattle.std.specs.Cmp.{eq_by_cmp_equiv, nat_cmp_total}
 use Rattle.std.proofs.lemmas.Bool.{and_parts, and_from, cond-true, cond-false, eqb-true, both_ways, lt-ltb}
 use Rattle.std.proofs.lemmas.Map.Lookups.{exact_unsigned}
-use Rattle.std.proofs.lemmas.Map.Views.{tells_apart}
+use Rattle.std.proofs.lemmas.Map.Views.{All-values-set_value, tells_apart}
 use Rattle.std.proofs.lemmas.Option.{same_Some, none-some}
+use Rattle.tcp_conn.specs.Fits.{Fits}
 use Rattle.tcp_wire.specs.declared.words.SocketPair.{SocketPair}
 use Rattle.tcp_flow.specs.declared.conn.Conn.{Conn}
 use Rattle.tcp_flow.specs.declared.table.Table.TheInside.{Inside}
 use Rattle.tcp_flow.specs.Held.{IsHeld}
-use Rattle.tcp_flow.specs.Table.{under, same_pair}
+use Rattle.tcp_flow.specs.Table.{AllFit, AllWait, under, same_pair}
 use Rattle.tcp_flow.specs.Index.{IsIndexed}
 
 pub by_cases : {P : Type 0} → (b : Bool) → (b ≡ true → P) → (b ≡ false → P) → P
@@ -162,14 +163,16 @@ came c c' i i' f f' next next' n k h none alone more low new found free =
 
 -- a connection is written in its place
 pub written : (t : Inside) (m : BTreeMap ℕ Conn) (n : ℕ) (k w : Conn) → IsHeld t → under n t.conns.entries ≡ Some k → w.pair ≡ k.pair →
-    WritesThrough nat_cmp (nat_cmp n) t.conns w m → IsHeld (record t { conns = m })
-written t m n k w h is ends through =
+    WritesThrough nat_cmp (nat_cmp n) t.conns w m → Fits w.connection → 0 < w.connection.round_trip.rto → IsHeld (record t { conns = m })
+written t m n k w h is ends through fit wait =
     record {
       in_order = through.4;
       indexed =
           changed (λ q. under q t.conns.entries) (λ q. under q m.entries) (hash.get same_pair t.index) (set.contains nat_cmp t.free) t.next n k w
           h.indexed is ends (through.3 (ap (is_some {T = Conn}) is)).0;
       free_in_order = h.free_in_order;
+      fit = subst AllFit (sym through.0) (All-values-set_value (is_at (nat_cmp n)) (λ (c : Conn). Fits c.connection) t.conns.entries w h.fit fit);
+      wait = subst AllWait (sym through.0) (All-values-set_value (is_at (nat_cmp n)) (λ (c : Conn). 0 < c.connection.round_trip.rto) t.conns.entries w h.wait wait);
     }
 
 pub remove-set : (test : ℕ → Bool) (es : List (ℕ × Conn)) (w : Conn) → remove_entry test (set_value test es w) ≡ remove_entry test es

@@ -30,10 +30,10 @@ use Rattle.tcp_flow.specs.declared.words.In.TheVariants.{Connect, Listen, Segmen
 use Rattle.tcp_flow.specs.declared.conn.Conn.{Conn}
 use Rattle.tcp_flow.specs.Conn.{done, all_done, begun, fresh, happened, event_of}
 use Rattle.tcp_flow.specs.Conns.{PlainConns, with_conns, passed, dropped, opens, connects_from, is_opening, accepts, refuses, comes_new, comes_to, comes, fires, asks_of, asks, step}
-use Rattle.tcp_flow.specs.Later.{IsLater, AllWait, time_of}
+use Rattle.tcp_flow.specs.Later.{IsLater, time_of}
 use Rattle.tcp_flow.specs.Stray.{answering, refusal}
-use Rattle.tcp_flow.specs.Table.{After, between, least_free, has_stamp, is_closed, is_opener_of, happens, happens_to, under}
-use Rattle.tcp_flow.proofs.Exchanges.{all_done-connection}
+use Rattle.tcp_flow.specs.Table.{AllWait, After, between, least_free, has_stamp, is_closed, is_opener_of, happens, happens_to, under}
+use Rattle.tcp_flow.proofs.Sending.{all_done-connection}
 use Rattle.tcp_flow.proofs.Timers.{Waits, Later, LaterStep, event-later, opening-later, heard_syn-later}
 
 abbrev refusal-of : ℕ → ℕ → Arrived → Numbers → Seg Packet
@@ -41,6 +41,17 @@ refusal-of src dst a n = record { src = dst; dst = src; packet = segment (new_ui
 
 abbrev refused-with : ℕ → ℕ → Arrived → Numbers → Made (Act Packet)
 refused-with src dst a n = record { numbers = with_packet n; acts = EmitAct (record { src = dst; dst = src; packet = segment (new_uid n) 0 (answering src dst a) (refusal a.says (length a.bytes)) [] }) ∷ [] }
+
+-- a connection that waited still does after an event, and a new one does from the start
+
+pub happened-waits : (now : ℕ) (event : Event) (k : Conn) (n : Numbers) → Waits k.connection → Waits (happened now event k n).conn.connection
+happened-waits now event k n z =
+    let s = event_of now event k.connection in
+    let p = event-later now event k.connection z in
+    subst Waits (sym (all_done-connection (record k { connection = s.now }) n s.effects)) p.waits
+
+pub begun-waits : (number app now : ℕ) (pair : SocketPair) (n : Numbers) (s : Stepped) → LaterStep now s → Waits (begun number app pair n s).conn.connection
+begun-waits number app now pair n s p = subst Waits (sym (all_done-connection (fresh number app pair s.now) n s.effects)) p.waits
 
 module _ (now : ℕ) where
   -- what is asked for, done
@@ -78,7 +89,7 @@ module _ (now : ℕ) where
       let s = event_of now event k.connection in
       let p = event-later now event k.connection z in
       let d = happened now event k n in
-      let y : Waits d.conn.connection = subst Waits (sym (all_done-connection (record k { connection = s.now }) n s.effects)) p.waits in
+      let y = happened-waits now event k n z in
       record {
         later = acts-later (record k { connection = s.now }) n s.effects p.all;
         waits =
@@ -96,7 +107,7 @@ module _ (now : ℕ) where
       Lasts (record { state = insert_entry nat_cmp conns number (begun number app pair n s).conn; numbers = (begun number app pair n s).numbers; acts = (begun number app pair n s).acts })
   begun-lasts number app pair n s conns h p =
       let d = begun number app pair n s in
-      let y : Waits d.conn.connection = subst Waits (sym (all_done-connection (fresh number app pair s.now) n s.effects)) p.waits in
+      let y = begun-waits number app now pair n s p in
       record {
         later = acts-later (fresh number app pair s.now) n s.effects p.all;
         waits = All-values-insert_entry nat_cmp number d.conn (λ (c : Conn). Waits c.connection) conns h y;

@@ -1,9 +1,13 @@
 pub mod SmallSteps
 pub mod Carrying
 pub mod Indexing
+pub mod Entries
 pub mod Lookups
 pub mod Adding
 pub mod Changing
-pub mod Exchanges
+pub mod Sending
 pub mod Timers
 pub mod LaterTimers
+pub mod Lives
+pub mod Openers
+pub mod Sinks

@@ -25,7 +25,7 @@ by_option (Some x) n s = s x refl
 
 -- between two
 
-between_finds : (p : SocketPair) (es : List (ℕ × Conn)) (n : ℕ) → InOrder es → between p es ≡ Some n → (k : Conn) × (under n es ≡ Some k) × (k.pair ≡ p)
+pub between_finds : (p : SocketPair) (es : List (ℕ × Conn)) (n : ℕ) → InOrder es → between p es ≡ Some n → (k : Conn) × (under n es ≡ Some k) × (k.pair ≡ p)
 between_finds p [] n o h = absurd (none-some n h)
 between_finds p (e ∷ es) n o h =
     by_cases (same_pair p e.1.pair)

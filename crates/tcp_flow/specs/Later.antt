@@ -1,22 +1,15 @@
 -- Timers fire later than they are asked for.
-use Rattle.std.specs.Prelude.{ℕ, ◌<◌, List}
-use Rattle.std.specs.List.{All}
-use Rattle.std.specs.Map.{values_of}
+use Rattle.std.specs.Prelude.{ℕ, ◌<◌}
 use Rattle.sim_base.specs.Packet.{Packet}
 use Rattle.tcp_flow.specs.declared.words.Act.{Act}
 use Rattle.tcp_flow.specs.declared.words.Act.TheVariants.{TimerAt}
 use Rattle.tcp_flow.specs.declared.words.In.{In}
 use Rattle.tcp_flow.specs.declared.words.In.TheVariants.{Connect, Listen, Segment, Timer, Write, Close}
-use Rattle.tcp_flow.specs.declared.conn.Conn.{Conn}
 
 -- an act asks for no time but a later one
 abbrev pub IsLater : ℕ → Act Packet → Type 0
 IsLater now (TimerAt at conn stamp) = now < at.0
 IsLater now other = Unit {0}
-
--- every connection waits for some time before it sends again
-abbrev pub AllWait : List (ℕ × Conn) → Type 0
-AllWait conns = All (λ k. 0 < k.connection.round_trip.rto) (values_of conns)
 
 -- when an input happens
 abbrev pub time_of : In Packet → ℕ

@@ -1,9 +1,9 @@
 pub mod Conn
 pub mod Conns
-pub mod Exchange
 pub mod Held
 pub mod Index
 pub mod Later
+pub mod Life
 pub mod Seen
 pub mod Small
 pub mod Stray

@@ -1,6 +1,7 @@
 -- What a connection asks for fits packets and numbers, and what it is given fits them too.
 use Rattle.std.specs.Prelude.{◌^◌, ◌<◌, ◌≤◌, IfSome, length}
 use Rattle.sim_base.specs.Packet.{Packet, len}
+use Rattle.tcp_conn.specs.Clock.{latest}
 use Rattle.tcp_conn.specs.declared.words.Effect.{Effect}
 use Rattle.tcp_conn.specs.declared.words.Effect.TheVariants.{Emit, Room, Deliver}
 use Rattle.tcp_flow.specs.declared.words.In.{In}
@@ -22,9 +23,9 @@ CanHappen other = Unit {0}
 
 -- times and greatest segment sizes are within their limits, and packets without their IPv4 header fit a datagram
 abbrev pub CanTake : In Packet → Type 0
-CanTake (Connect now app src sport dst port mss) = (now.0 ≤ 2 ^ 60) × (64 ≤ mss) × (mss ≤ 9000)
+CanTake (Connect now app src sport dst port mss) = (now.0 ≤ latest) × (64 ≤ mss) × (mss ≤ 9000)
 CanTake (Listen app port) = Unit {0}
-CanTake (SegmentIn now s) = (now.0 ≤ 2 ^ 60) × (len s.packet ≤ 65515)
-CanTake (Timer now conn stamp) = now.0 ≤ 2 ^ 60
-CanTake (Write now app bytes) = now.0 ≤ 2 ^ 60
-CanTake (Close now app) = now.0 ≤ 2 ^ 60
+CanTake (SegmentIn now s) = (now.0 ≤ latest) × (len s.packet ≤ 65515)
+CanTake (Timer now conn stamp) = now.0 ≤ latest
+CanTake (Write now app bytes) = now.0 ≤ latest
+CanTake (Close now app) = now.0 ≤ latest

@@ -1,5 +1,5 @@
 -- The connections of a node, each under its number, in the order of the numbers.
-use Rattle.std.specs.Prelude.{ℕ, suc, ◌==◌, ◌&&◌, Bool, true, false, if◌then◌else◌, List, [], ◌∷◌, Option, None, Some}
+use Rattle.std.specs.Prelude.{ℕ, suc, ◌<◌, ◌==◌, ◌&&◌, Bool, true, false, if◌then◌else◌, List, [], ◌∷◌, Option, None, Some}
 use Rattle.std.specs.List.{All}
 use Rattle.std.specs.Map.{lookup, set_value, remove_entry, values_of}
 use Rattle.std.specs.BTreeMap.{insert_entry, is_at}
@@ -77,3 +77,7 @@ is_opener_of app (Some k) = k.connection.opener && k.app == app
 -- the positions of every connection are in order, and small
 abbrev pub AllFit : List (ℕ × Conn) → Type 0
 AllFit conns = All (λ k. Fits k.connection) (values_of conns)
+
+-- every connection waits for some time before it sends again
+abbrev pub AllWait : List (ℕ × Conn) → Type 0
+AllWait conns = All (λ k. 0 < k.connection.round_trip.rto) (values_of conns)

@@ -2,6 +2,7 @@
 
 ghost use Rattle.std.specs.Prelude.{◌≡◌, ◌≤◌, ◌<◌, ◌^◌, IfOk, OnOk, length};
 ghost use Rattle.layer_words.specs.Acts.{Appends};
+ghost use Rattle.tcp_conn.specs.Clock.{latest};
 ghost use Rattle.tcp_conn.specs.Begin.{closes, heard_syn, opening, writes};
 ghost use Rattle.tcp_conn.specs.Fits.{Fits};
 ghost use Rattle.tcp_conn.specs.Step.{hears, times_out};
@@ -39,7 +40,7 @@ impl Conn {
         numbers: &mut Numbers,
         out: &mut Vec<Act<P>>,
     ) -> Result<Conn, NoMemory>
-        requires time { now.0 ≤ 2 ^ 60 }
+        requires time { now.0 ≤ latest }
         requires least { 64 ≤ mss }
         requires greatest { mss ≤ 9000 }
         ensures conn { IfOk result (λ k. k ≡ (begun number app pair numbers.old (opening now.0 mss)).conn) }
@@ -72,7 +73,7 @@ impl Conn {
         numbers: &mut Numbers,
         out: &mut Vec<Act<P>>,
     ) -> Result<Conn, NoMemory>
-        requires { now.0 ≤ 2 ^ 60 }
+        requires { now.0 ≤ latest }
         ensures conn { IfOk result (λ k. k ≡ (begun number app pair numbers.old (heard_syn now.0)).conn) }
         ensures numbers { OnOk result (numbers.new ≡ (begun number app pair numbers.old (heard_syn now.0)).numbers) }
         ensures acts { OnOk result (Appends (plain_act P.plain) out.old.items out.new.items (begun number app pair numbers.old (heard_syn now.0)).acts) }
@@ -102,7 +103,7 @@ impl Conn {
         numbers: &mut Numbers,
         out: &mut Vec<Act<P>>,
     ) -> Result<(), NoMemory>
-        requires time { now.0 ≤ 2 ^ 60 }
+        requires time { now.0 ≤ latest }
         requires fits { Fits self.old.connection }
         requires bytes { length arrived.now.bytes < 2 ^ 32 }
         ensures conn { OnOk result (self.new ≡ (stepped self.old numbers.old (hears now.0 arrived.now.says arrived.now.bytes self.old.connection)).conn) }
@@ -128,7 +129,7 @@ impl Conn {
         numbers: &mut Numbers,
         out: &mut Vec<Act<P>>,
     ) -> Result<(), NoMemory>
-        requires time { now.0 ≤ 2 ^ 60 }
+        requires time { now.0 ≤ latest }
         requires fits { Fits self.old.connection }
         ensures conn { OnOk result (self.new ≡ (stepped self.old numbers.old (times_out now.0 self.old.connection)).conn) }
         ensures numbers { OnOk result (numbers.new ≡ (stepped self.old numbers.old (times_out now.0 self.old.connection)).numbers) }
@@ -152,7 +153,7 @@ impl Conn {
         numbers: &mut Numbers,
         out: &mut Vec<Act<P>>,
     ) -> Result<(), NoMemory>
-        requires time { now.0 ≤ 2 ^ 60 }
+        requires time { now.0 ≤ latest }
         requires fits { Fits self.old.connection }
         ensures conn { OnOk result (self.new ≡ (stepped self.old numbers.old (writes now.0 bytes.now self.old.connection)).conn) }
         ensures numbers { OnOk result (numbers.new ≡ (stepped self.old numbers.old (writes now.0 bytes.now self.old.connection)).numbers) }
@@ -175,7 +176,7 @@ impl Conn {
         numbers: &mut Numbers,
         out: &mut Vec<Act<P>>,
     ) -> Result<(), NoMemory>
-        requires time { now.0 ≤ 2 ^ 60 }
+        requires time { now.0 ≤ latest }
         requires fits { Fits self.old.connection }
         ensures conn { OnOk result (self.new ≡ (stepped self.old numbers.old (closes now.0 self.old.connection)).conn) }
         ensures numbers { OnOk result (numbers.new ≡ (stepped self.old numbers.old (closes now.0 self.old.connection)).numbers) }

@@ -3,12 +3,13 @@
 ghost use Rattle.std.specs.Prelude.{◌≡◌, ◌≤◌, ◌<◌, ◌^◌, [], OnOk, None, length};
 ghost use Rattle.sim_base.specs.Packet.{len};
 ghost use Rattle.layer_words.specs.Acts.{Appends};
+ghost use Rattle.tcp_conn.specs.Clock.{latest};
 ghost use Rattle.tcp_wire.specs.Segment.{arrived};
 ghost use Rattle.tcp_flow.specs.Index.{InOrder};
 ghost use Rattle.tcp_flow.specs.Seen.{plain_act, plain_in};
 ghost use Rattle.tcp_flow.specs.Small.{CanHappen, CanTake};
 ghost use Rattle.tcp_flow.specs.Stray.{answering};
-ghost use Rattle.tcp_flow.specs.Table.{AllFit, between, happens, under};
+ghost use Rattle.tcp_flow.specs.Table.{AllFit, AllWait, between, happens, under};
 ghost use Rattle.tcp_flow.specs.Conns.{is_opening};
 
 use crate::conn::Conn;
@@ -57,11 +58,14 @@ impl Conns {
         }
     }
 
-    /// Its connections are in the order of their numbers, each of which is there once.
-    pub fn is_in_order(&self)
-        ensures { InOrder self.now.conns }
+    /// Its connections are in the order of their numbers, each of which is there once; their positions are in order and
+    /// small, and each waits for some time before it sends again.
+    pub fn is_sound(&self)
+        ensures order { InOrder self.now.conns }
+        ensures fit { AllFit self.now.conns }
+        ensures wait { AllWait self.now.conns }
     {
-        self.table.is_in_order();
+        self.table.is_sound();
     }
 
     /// Takes an input, with the node's numbers, and puts the acts that follow behind `out`. After `NoMemory` all are given
@@ -73,12 +77,10 @@ impl Conns {
         numbers: &mut Numbers,
         out: &mut Vec<Act<P>>,
     ) -> Result<(), NoMemory>
-        requires input { CanTake (plain_in P.plain input) }
-        requires fits { AllFit self.old.conns }
+        requires { CanTake (plain_in P.plain input) }
         ensures state { OnOk result (self.new ≡ (step self.old numbers.old (plain_in P.plain input)).state) }
         ensures numbers { OnOk result (numbers.new ≡ (step self.old numbers.old (plain_in P.plain input)).numbers) }
         ensures acts { OnOk result (Appends (plain_act P.plain) out.old.items out.new.items (step self.old numbers.old (plain_in P.plain input)).acts) }
-        ensures fits { OnOk result (AllFit self.new.conns) }
     {
         match input {
             In::Connect {
@@ -128,14 +130,12 @@ impl Conns {
         numbers: &mut Numbers,
         out: &mut Vec<Act<P>>,
     ) -> Result<(), NoMemory>
-        requires time { now.0 ≤ 2 ^ 60 }
+        requires time { now.0 ≤ latest }
         requires least { 64 ≤ mss }
         requires greatest { mss ≤ 9000 }
-        requires fits { AllFit self.old.conns }
         ensures state { OnOk result (self.new ≡ (connects now.0 app pair mss self.old numbers.old).state) }
         ensures numbers { OnOk result (numbers.new ≡ (connects now.0 app pair mss self.old numbers.old).numbers) }
         ensures acts { OnOk result (Appends (plain_act P.plain) out.old.items out.new.items (connects now.0 app pair mss self.old numbers.old).acts) }
-        ensures fits { OnOk result (AllFit self.new.conns) }
     {
         match self.table.between(&pair) {
             Some(_) => {
@@ -156,15 +156,13 @@ impl Conns {
         numbers: &mut Numbers,
         out: &mut Vec<Act<P>>,
     ) -> Result<(), NoMemory>
-        requires time { now.0 ≤ 2 ^ 60 }
+        requires time { now.0 ≤ latest }
         requires least { 64 ≤ mss }
         requires greatest { mss ≤ 9000 }
-        requires fits { AllFit self.old.conns }
         requires new { between pair self.old.conns ≡ None }
         ensures state { OnOk result (self.new ≡ (opens now.0 app pair mss self.old numbers.old).state) }
         ensures numbers { OnOk result (numbers.new ≡ (opens now.0 app pair mss self.old numbers.old).numbers) }
         ensures acts { OnOk result (Appends (plain_act P.plain) out.old.items out.new.items (opens now.0 app pair mss self.old numbers.old).acts) }
-        ensures fits { OnOk result (AllFit self.new.conns) }
     {
         let alloc = *out.allocator();
         let number = self.table.least_free()?;
@@ -182,13 +180,11 @@ impl Conns {
         numbers: &mut Numbers,
         out: &mut Vec<Act<P>>,
     ) -> Result<(), NoMemory>
-        requires time { now.0 ≤ 2 ^ 60 }
+        requires time { now.0 ≤ latest }
         requires packet { len (P.plain segment.now.packet) ≤ 65515 }
-        requires fits { AllFit self.old.conns }
         ensures state { OnOk result (self.new ≡ (comes now.0 segment.now.src segment.now.dst (arrived segment.now.src segment.now.dst (P.plain segment.now.packet)) self.old numbers.old).state) }
         ensures numbers { OnOk result (numbers.new ≡ (comes now.0 segment.now.src segment.now.dst (arrived segment.now.src segment.now.dst (P.plain segment.now.packet)) self.old numbers.old).numbers) }
         ensures acts { OnOk result (Appends (plain_act P.plain) out.old.items out.new.items (comes now.0 segment.now.src segment.now.dst (arrived segment.now.src segment.now.dst (P.plain segment.now.packet)) self.old numbers.old).acts) }
-        ensures fits { OnOk result (AllFit self.new.conns) }
     {
         let alloc = *out.allocator();
         let found = read_segment(alloc, segment.src, segment.dst, &segment.packet)?;
@@ -214,13 +210,11 @@ impl Conns {
         numbers: &mut Numbers,
         out: &mut Vec<Act<P>>,
     ) -> Result<(), NoMemory>
-        requires time { now.0 ≤ 2 ^ 60 }
+        requires time { now.0 ≤ latest }
         requires bytes { length arrived.bytes < 2 ^ 32 }
-        requires fits { AllFit self.old.conns }
         ensures state { OnOk result (self.new ≡ (comes_to now.0 src dst arrived (between (answering src dst arrived) self.old.conns) self.old numbers.old).state) }
         ensures numbers { OnOk result (numbers.new ≡ (comes_to now.0 src dst arrived (between (answering src dst arrived) self.old.conns) self.old numbers.old).numbers) }
         ensures acts { OnOk result (Appends (plain_act P.plain) out.old.items out.new.items (comes_to now.0 src dst arrived (between (answering src dst arrived) self.old.conns) self.old numbers.old).acts) }
-        ensures fits { OnOk result (AllFit self.new.conns) }
     {
         let pair = answering(src, dst, &arrived);
         match self.table.between(&pair) {
@@ -240,13 +234,11 @@ impl Conns {
         numbers: &mut Numbers,
         out: &mut Vec<Act<P>>,
     ) -> Result<(), NoMemory>
-        requires time { now.0 ≤ 2 ^ 60 }
+        requires time { now.0 ≤ latest }
         requires event { CanHappen event }
-        requires fits { AllFit self.old.conns }
         ensures state { OnOk result (self.new ≡ (with_conns self.old (happens number now.0 event numbers.old self.old.conns)).state) }
         ensures numbers { OnOk result (numbers.new ≡ (happens number now.0 event numbers.old self.old.conns).numbers) }
         ensures acts { OnOk result (Appends (plain_act P.plain) out.old.items out.new.items (happens number now.0 event numbers.old self.old.conns).acts) }
-        ensures fits { OnOk result (AllFit self.new.conns) }
     {
         self.table.happens(now, number, &event, maker, numbers, out)
     }
@@ -262,14 +254,12 @@ impl Conns {
         numbers: &mut Numbers,
         out: &mut Vec<Act<P>>,
     ) -> Result<(), NoMemory>
-        requires time { now.0 ≤ 2 ^ 60 }
+        requires time { now.0 ≤ latest }
         requires bytes { length arrived.now.bytes < 2 ^ 32 }
-        requires fits { AllFit self.old.conns }
         requires new { between (answering src dst arrived.now) self.old.conns ≡ None }
         ensures state { OnOk result (self.new ≡ (comes_new now.0 src dst arrived.now (under arrived.now.dport self.old.listening) self.old numbers.old).state) }
         ensures numbers { OnOk result (numbers.new ≡ (comes_new now.0 src dst arrived.now (under arrived.now.dport self.old.listening) self.old numbers.old).numbers) }
         ensures acts { OnOk result (Appends (plain_act P.plain) out.old.items out.new.items (comes_new now.0 src dst arrived.now (under arrived.now.dport self.old.listening) self.old numbers.old).acts) }
-        ensures fits { OnOk result (AllFit self.new.conns) }
     {
         let alloc = *out.allocator();
         let Some(app) = self.listening.get(&arrived.dport).copied() else {
@@ -291,13 +281,11 @@ impl Conns {
         numbers: &mut Numbers,
         out: &mut Vec<Act<P>>,
     ) -> Result<(), NoMemory>
-        requires time { now.0 ≤ 2 ^ 60 }
-        requires fits { AllFit self.old.conns }
+        requires time { now.0 ≤ latest }
         requires new { between pair self.old.conns ≡ None }
         ensures state { OnOk result (self.new ≡ (accepts now.0 app pair self.old numbers.old).state) }
         ensures numbers { OnOk result (numbers.new ≡ (accepts now.0 app pair self.old numbers.old).numbers) }
         ensures acts { OnOk result (Appends (plain_act P.plain) out.old.items out.new.items (accepts now.0 app pair self.old numbers.old).acts) }
-        ensures fits { OnOk result (AllFit self.new.conns) }
     {
         let alloc = *out.allocator();
         let number = self.table.least_free()?;
@@ -315,12 +303,10 @@ impl Conns {
         numbers: &mut Numbers,
         out: &mut Vec<Act<P>>,
     ) -> Result<(), NoMemory>
-        requires time { now.0 ≤ 2 ^ 60 }
-        requires fits { AllFit self.old.conns }
+        requires time { now.0 ≤ latest }
         ensures state { OnOk result (self.new ≡ (fires now.0 number stamp self.old numbers.old).state) }
         ensures numbers { OnOk result (numbers.new ≡ (fires now.0 number stamp self.old numbers.old).numbers) }
         ensures acts { OnOk result (Appends (plain_act P.plain) out.old.items out.new.items (fires now.0 number stamp self.old numbers.old).acts) }
-        ensures fits { OnOk result (AllFit self.new.conns) }
     {
         if !self.table.has_stamp(number, stamp) {
             return Ok(());
@@ -339,13 +325,11 @@ impl Conns {
         numbers: &mut Numbers,
         out: &mut Vec<Act<P>>,
     ) -> Result<(), NoMemory>
-        requires time { now.0 ≤ 2 ^ 60 }
-        requires fits { AllFit self.old.conns }
+        requires time { now.0 ≤ latest }
         requires event { CanHappen event.now }
         ensures state { OnOk result (self.new ≡ (asks now.0 app event.now self.old numbers.old).state) }
         ensures numbers { OnOk result (numbers.new ≡ (asks now.0 app event.now self.old numbers.old).numbers) }
         ensures acts { OnOk result (Appends (plain_act P.plain) out.old.items out.new.items (asks now.0 app event.now self.old numbers.old).acts) }
-        ensures fits { OnOk result (AllFit self.new.conns) }
     {
         let Some(number) = self.opened.get(&app).copied() else {
             return Ok(());

@@ -2,6 +2,7 @@
 
 ghost use Rattle.std.specs.Prelude.{◌≡◌, ◌≤◌, ◌<◌, ◌^◌, OnOk, length};
 ghost use Rattle.layer_words.specs.Acts.{Appends};
+ghost use Rattle.tcp_conn.specs.Clock.{latest};
 ghost use Rattle.tcp_conn.specs.Fits.{Fits};
 ghost use Rattle.tcp_flow.specs.Conn.{happened};
 ghost use Rattle.tcp_flow.specs.Table.{is_closed};
@@ -25,7 +26,7 @@ impl Conn {
         numbers: &mut Numbers,
         out: &mut Vec<Act<P>>,
     ) -> Result<(), NoMemory>
-        requires time { now.0 ≤ 2 ^ 60 }
+        requires time { now.0 ≤ latest }
         requires fits { Fits self.old.connection }
         requires event { CanHappen event.now }
         ensures conn { OnOk result (self.new ≡ (happened now.0 event.now self.old numbers.old).conn) }

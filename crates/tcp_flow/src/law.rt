@@ -1,4 +1,4 @@
-//! Laws of connections: the delivered prefix over packets, timers, and numbers.
+//! Laws of connections: the delivered prefix of what nodes do, timers, and numbers.
 
 ghost use Rattle.std.specs.Prelude.{◌≡◌, ◌<◌, ℕ, List, true, All, None, IsSome};
 ghost use Rattle.sim_base.specs.declared.numbers.Numbers.{Numbers};
@@ -7,20 +7,21 @@ ghost use Rattle.tcp_stream.specs.History.{IsPrefixOf, delivered, has_end};
 ghost use Rattle.tcp_flow.specs.declared.words.In.{In};
 ghost use Rattle.tcp_flow.specs.declared.conn.Conn.{Conn};
 ghost use Rattle.tcp_flow.specs.Conns.{PlainConns, step};
-ghost use Rattle.tcp_flow.specs.Exchange.{Happening, IsOpening, Opening, WritesBytes, opened, run};
 ghost use Rattle.tcp_flow.specs.Index.{InOrder};
-ghost use Rattle.tcp_flow.specs.Later.{AllWait, IsLater, time_of};
-ghost use Rattle.tcp_flow.specs.Table.{least_free, under};
+ghost use Rattle.tcp_flow.specs.Later.{IsLater, time_of};
+ghost use Rattle.tcp_flow.specs.Life.{Birth, IsTransfer, life_of};
+ghost use Rattle.tcp_flow.specs.Table.{AllWait, least_free, under};
 
-/// Whatever happens to an opener, and whichever of its packets come to the sink, how often and in which order: what the
-/// sink hands to its application is a prefix of what the opener's writes have taken, and it tells the end only after the
-/// close, when it has handed on all of it. It rests on two laws: segments are read as they were written, and the
-/// deliveries of segments are a prefix.
-pub fn deliveries_of_packets_are_a_prefix()
-    ensures prefix { (begin : Opening) (number app : ℕ) (happenings : List Happening) → IsOpening begin → WritesBytes happenings →
-        IsPrefixOf (delivered (run number app (opened begin) happenings).told) (run number app (opened begin) happenings).written }
-    ensures end { (begin : Opening) (number app : ℕ) (happenings : List Happening) → IsOpening begin → WritesBytes happenings → has_end (run number app (opened begin) happenings).told ≡ true →
-        ((run number app (opened begin) happenings).opener.connection.closing ≡ true) × (delivered (run number app (opened begin) happenings).told ≡ (run number app (opened begin) happenings).written) }
+/// Of a connection that an application opens at one node and a segment makes at another, whatever else the two nodes take
+/// for it and for their other connections: as long as only segments come to the sink that the opener has sent, lost,
+/// repeated and in any order, what the sink hands to its application is a prefix of what the opener's writes have taken;
+/// and it tells the end only after the close, when it has handed on all of it. As each node's inputs are any that it has
+/// taken so far, this holds at every moment.
+pub fn deliveries_between_nodes_are_a_prefix()
+    ensures prefix { (opener sink : Birth) (there here : List (In Packet)) → IsTransfer opener sink there here →
+        IsPrefixOf (delivered (life_of sink here).told) (life_of opener there).written }
+    ensures end { (opener sink : Birth) (there here : List (In Packet)) → IsTransfer opener sink there here → has_end (life_of sink here).told ≡ true →
+        ((life_of opener there).closed ≡ true) × (delivered (life_of sink here).told ≡ (life_of opener there).written) }
 {
     tcp_conn::deliveries_are_a_prefix();
     tcp_wire::segments_are_read_as_written();

@@ -13,7 +13,7 @@ mod words;
 pub use conn::Conn;
 pub use conns::Conns;
 pub use law::{
-    deliveries_of_packets_are_a_prefix, new_numbers_are_the_least_free, timers_come_later,
+    deliveries_between_nodes_are_a_prefix, new_numbers_are_the_least_free, timers_come_later,
 };
 pub use stray::refuse;
 pub use words::{Act, Event, In, Seg};

@@ -4,13 +4,15 @@
 //!     free:           2       4
 //!     index:   the two ends of c, d and e, each with its number
 
-ghost use Rattle.std.specs.Prelude.{◌≡◌, ◌≤◌, ◌^◌, [], OnOk, IfOk, None, IsSome};
+ghost use Rattle.std.specs.Prelude.{◌≡◌, ◌<◌, ◌≤◌, ◌^◌, [], OnOk, IfOk, None, IsSome};
 ghost use Rattle.std.specs.Option.{IsSomeAnd};
 ghost use Rattle.std.specs.BTreeMap.{insert_entry, is_at};
 ghost use Rattle.std.specs.Map.{remove_entry};
 ghost use Rattle.std.specs.Ordering.{nat_cmp};
 ghost use Rattle.layer_words.specs.Acts.{Appends};
-ghost use Rattle.tcp_flow.specs.Table.{AllFit, between, happens, has_stamp, is_opener_of, least_free, under};
+ghost use Rattle.tcp_conn.specs.Clock.{latest};
+ghost use Rattle.tcp_conn.specs.Fits.{Fits};
+ghost use Rattle.tcp_flow.specs.Table.{AllFit, AllWait, between, happens, has_stamp, is_opener_of, least_free, under};
 ghost use Rattle.tcp_flow.specs.Index.{InOrder};
 ghost use Rattle.tcp_flow.specs.Seen.{plain_act};
 ghost use Rattle.tcp_flow.specs.Small.{CanHappen};
@@ -62,9 +64,11 @@ impl Table {
         }
     }
 
-    /// The numbers are in order.
-    pub(crate) fn is_in_order(&self)
-        ensures { InOrder self.now }
+    /// The numbers are in order, and the connections sound.
+    pub(crate) fn is_sound(&self)
+        ensures order { InOrder self.now }
+        ensures fit { AllFit self.now }
+        ensures wait { AllWait self.now }
     {
         let _conns = &self.conns;
     }
@@ -111,6 +115,8 @@ impl Table {
     pub(crate) fn add(&mut self, number: u32, conn: Conn) -> Result<(), NoMemory>
         requires number { number ≡ least_free 0 self.old }
         requires new { between conn.pair self.old ≡ None }
+        requires fits { Fits conn.connection }
+        requires waits { 0 < conn.connection.round_trip.rto }
         ensures { OnOk result (self.new ≡ insert_entry nat_cmp self.old number conn) }
     {
         let pair = conn.pair;
@@ -130,7 +136,7 @@ impl Table {
     }
 
     /// Lets a connection take an event, with the node's numbers, and puts the acts that follow behind `out`. Once it is
-    /// closed it is removed.
+    /// closed it is removed. After `NoMemory` all are given up: nothing is left then of connections that aren't sound.
     pub(crate) fn happens<P: Pkt>(
         &mut self,
         now: Time,
@@ -140,23 +146,28 @@ impl Table {
         numbers: &mut Numbers,
         out: &mut Vec<Act<P>>,
     ) -> Result<(), NoMemory>
-        requires time { now.0 ≤ 2 ^ 60 }
-        requires fits { AllFit self.old }
+        requires time { now.0 ≤ latest }
         requires event { CanHappen event.now }
         ensures conns { OnOk result (self.new ≡ (happens number now.0 event.now numbers.old self.old).state) }
         ensures numbers { OnOk result (numbers.new ≡ (happens number now.0 event.now numbers.old self.old).numbers) }
         ensures acts { OnOk result (Appends (plain_act P.plain) out.old.items out.new.items (happens number now.0 event.now numbers.old self.old).acts) }
-        ensures fits { OnOk result (AllFit self.new) }
     {
         let Some(conn) = self.conns.get_mut(&number) else {
             return Ok(());
         };
         let pair = conn.pair;
-        conn.step(now, event, maker, numbers, out)?;
-        if conn.is_closed() {
-            return self.remove(number, &pair);
+        match conn.step(now, event, maker, numbers, out) {
+            Ok(()) => {
+                if conn.is_closed() {
+                    return self.remove(number, &pair);
+                }
+                Ok(())
+            }
+            Err(refused) => {
+                *self = Table::new(*out.allocator());
+                Err(refused)
+            }
         }
-        Ok(())
     }
 
     /// Removes a connection.

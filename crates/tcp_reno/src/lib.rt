@@ -42,6 +42,3 @@ pub fn window_in_bounds()
 pub fn one_loss_a_window()
     ensures { (r : NewReno) (inputs : List RenoIn) → All (IsAckUpTo r.recover) inputs → (run r inputs).ssthresh ≡ r.ssthresh }
 {}
-
-#[cfg(test)]
-mod tests;

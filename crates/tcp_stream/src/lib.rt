@@ -66,6 +66,3 @@ pub fn transfers_end()
     ensures history { (bytes : List ℕ) → length bytes < window → IsHistory opened (transfer bytes) }
     ensures told { (bytes : List ℕ) → length bytes < window → (run opened (transfer bytes)).told ≡ delivery bytes ++ End ∷ [] }
 {}
-
-#[cfg(test)]
-mod tests;

@@ -1,11 +1,11 @@
-use Rattle.std.proofs.Common.{sym, subst}
-use Rattle.std.proofs.lemmas.Result.{on_ok_weaker}
-use Rattle.tcp_flow.specs.Table.{AllFit}
-use Rattle.tcp_flow.proofs.Changing.{fits-added}
+use Rattle.std.proofs.Common.{◌<◌, sym, subst}
+use Rattle.tcp_conn.specs.Begin.{heard_syn}
+use Rattle.tcp_flow.specs.declared.conn.Conn.{Conn}
+use Rattle.tcp_flow.proofs.LaterTimers.{begun-waits}
+use Rattle.tcp_flow.proofs.Timers.{heard_syn-later}
 use Rattle.tcp_flow.proofs.conns.Conns.accept.Goals as goal
 
-pub returns-clause-fits : goal.returns-clause-fits
-returns-clause-fits g c =
-    on_ok_weaker c.add.result
-    (λ e. subst AllFit (sym e) (fits-added c.self.inside.table c.in_ok-number.number c.in_ok-conn.conn (subst (λ t. AllFit t.conns) (sym c.self.view_is) c.requires.fits) c.in_ok-conn.ensures.fits))
-    c.add.ensures
+pub add-requires-clause-waits : goal.add-requires-clause-waits
+add-requires-clause-waits g c =
+    subst (λ (k : Conn). 0 < k.connection.round_trip.rto) (sym c.in_ok-conn.ensures.conn)
+    (begun-waits c.in_ok-number.number c.args.app c.args.now.0 c.args.pair c.args.numbers.now (heard_syn c.args.now.0) (heard_syn-later c.args.now.0))

@@ -4,9 +4,10 @@ use Rattle.std.specs.HashMap as hash
 use Rattle.std.specs.Option.{IsSomeAnd}
 use Rattle.std.specs.Ordering.{nat_cmp}
 use Rattle.tcp_flow.specs.declared.conn.Conn.{Conn}
-use Rattle.tcp_flow.specs.Table.{same_pair, under}
+use Rattle.tcp_flow.specs.Table.{AllFit, AllWait, same_pair, under}
 use Rattle.tcp_flow.proofs.Indexing.{gone}
 use Rattle.tcp_flow.proofs.Adding.{some_and}
+use Rattle.tcp_flow.proofs.Changing.{fits-removed, waits-removed}
 use Rattle.tcp_flow.proofs.table.Table.remove.Goals as goal
 
 pub invariant_of-self-2 : goal.invariant_of-self-2
@@ -24,4 +25,6 @@ invariant_of-self-2 c =
           (λ p. c.remove.ensures.updates.0 p ∙ ap (λ o. cond (same_pair o p) None (hash.get same_pair t.index p)) (sym there.2))
           c.in_ok-insert.ensures.updates.0;
       free_in_order = c.insert.ensures.ordered;
+      fit = subst AllFit (sym c.remove-2.ensures.entries) (fits-removed t.conns.entries n c.self.invariant.fit);
+      wait = subst AllWait (sym c.remove-2.ensures.entries) (waits-removed t.conns.entries n c.self.invariant.wait);
     }
