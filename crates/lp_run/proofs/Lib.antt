@@ -4,6 +4,7 @@ pub mod HandedOut
 pub mod Seen
 pub mod Nodes
 pub mod Steps
+pub mod Others
 pub mod Loop
 pub mod Ready
 pub mod Firing

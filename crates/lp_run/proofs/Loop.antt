@@ -1,5 +1,6 @@
 -- The loop of a group's firings.
-use Rattle.std.proofs.Common.{◌≡◌, ℕ, ◌+◌, ◌<◌, ◌&&◌, zero, suc, List, [], ◌∷◌, ◌++◌, length, map, refl, sym, ap, ◌∙◌, Some, None, cond, subst, arith, append_assoc, nat_lt, slice_index, length-append}
+use Rattle.std.specs.List.{AllByRecursion}
+use Rattle.std.proofs.Common.{◌≡◌, ℕ, Bool, true, ◌+◌, ◌<◌, ◌≤◌, ◌&&◌, zero, suc, List, [], ◌∷◌, ◌++◌, length, map, refl, sym, ap, ◌∙◌, Some, None, cond, subst, arith, append_assoc, nat_lt, slice_index, length-append}
 use Rattle.std.proofs.lemmas.Grind.{flat_map-append}
 use Rattle.std.proofs.lemmas.List.{append-nil, map-append}
 use Rattle.sim_base.specs.Packet.{Packet}
@@ -9,8 +10,10 @@ use Rattle.round_core.specs.Laws.{IsLawful}
 use Rattle.round_core.specs.Lines.{lines_of}
 use Rattle.round_core.specs.Parts.{Part, PartRuns, IsPartSound, part_after, part_firings, part_next}
 use Rattle.round_core.specs.Rounds.{below}
-use Rattle.round_core.specs.World.{Firing, Ready, Rules, next, after, reaction}
-use Rattle.round_core.proofs.PartSound.{part-more, part-sound, part-spends}
+use Rattle.round_core.specs.World.{Event, Firing, Ready, Rules, next, after, reaction}
+use Rattle.round_core.proofs.ListLaws.{all-map, first-holds}
+use Rattle.round_core.proofs.PartSound.{part-more, part-sound}
+use Rattle.round_core.proofs.Settling.{Found, next-found}
 use Rattle.node_step.specs.declared.loads.Load.{Load}
 use Rattle.node_step.specs.Firing.{Text}
 use Rattle.node_step.specs.Node.{PlainNode}
@@ -18,7 +21,9 @@ use Rattle.node_step.specs.Part.{has, place_of}
 use Rattle.node_rules.specs.Firings.{trace_line}
 use Rattle.node_rules.specs.Health.{Shape, health}
 use Rattle.node_rules.specs.Rules.{NoLan, room, rules}
-use Rattle.lp_run.specs.Lp.{PlainLp, HasFired, counted, IsWellLp, own_group, part_of, unlogged_part}
+use Rattle.lp_run.specs.Lp.{PlainLp, HasFired, counted, IsWellLp, beside, here, own_group, part_of, unlogged_part}
+use Rattle.lp_run.proofs.Others.{after-beside, next-beside, spends}
+use Rattle.lp_run.proofs.Ready.{group-has}
 
 abbrev GroupPart : Type 0
 GroupPart = Part PlainNode NoLan (Load Packet) Text
@@ -94,25 +99,47 @@ module _ (lawful : (limit : ℕ) (shape : Shape) → IsLawful (rules limit) (hea
       counted = sound.counted;
     }
 
+    all_here : AllByRecursion (λ (e : Event (Load Packet)). here now e.key.node.0 ≡ true) now.pending
+    all_here = all-map (λ (e : Event (Load Packet)). own_group now.part e.key.node.0 ≡ 0) (λ (e : Event (Load Packet)). here now e.key.node.0 ≡ true)
+        (λ e own. group-has (has e.key.node.0 now.part) own) now.pending well.sound.own
+
+    found : Found (rules now.part.limit) (below end) (part_of now).world r
+    found = next-found (rules now.part.limit) (below end) (part_of now).world r is
+
+    target_here : here now r.event.key.node.0 ≡ true
+    target_here = first-holds (below end) (λ (x : Event (Load Packet)). here now x.key.node.0 ≡ true) now.pending r.event all_here found.event
+
+    is_beside : next (rules now.part.limit) (below end) (beside (here now) well.others (part_of now)).world ≡ Some r
+    is_beside = next-beside (rules now.part.limit) (here now) well.others end (part_of now) all_here ∙ is
+
     pub well-more : IsWellLp new
     well-more =
         let limit = now.part.limit in
         let mid = part_after (rules limit) (own_group now.part) 0 end (part_of now) r in
-        let sound = part-sound (rules limit) (health well.shape) (lawful limit well.shape) (own_group now.part) 0 end (part_of now) r well.sound is in
+        let sound = part-sound (rules limit) (health well.shape) (lawful limit well.shape) (own_group now.part) 0 end
+        (beside (here now) well.others (part_of now)) r well.sound is_beside in
         let groups = same_group now new mid fired in
-        let P : GroupPart → Type 0 = λ x. IsPartSound (rules limit) (health well.shape) (own_group now.part) 0 x in
-        let Q : (ℕ → ℕ) → Type 0 = λ x. IsPartSound (rules limit) (health well.shape) x 0 (part_of new) in
-        let R : ℕ → Type 0 = λ x. IsPartSound (rules x) (health well.shape) (own_group new.part) 0 (part_of new) in
+        let O : GroupPart → Type 0 = λ x. IsPartSound (rules limit) (health well.shape) (own_group now.part) 0 x in
+        let P : GroupPart → Type 0 = λ x. IsPartSound (rules limit) (health well.shape) (own_group now.part) 0 (beside (here now) well.others x) in
+        let H : (ℕ → Bool) → Type 0 = λ x. IsPartSound (rules limit) (health well.shape) (own_group now.part) 0 (beside x well.others (part_of new)) in
+        let Q : (ℕ → ℕ) → Type 0 = λ x. IsPartSound (rules limit) (health well.shape) x 0 (beside (here new) well.others (part_of new)) in
+        let R : ℕ → Type 0 = λ x. IsPartSound (rules x) (health well.shape) (own_group new.part) 0 (beside (here new) well.others (part_of new)) in
+        let left : P mid = subst O (after-beside (rules limit) (here now) well.others (own_group now.part) 0 end (part_of now) r target_here) sound in
         record {
           shape = well.shape;
+          others = well.others;
           nodes = well.nodes ∙ ap length (sym fired.places);
           apart = λ n m h k same. well.apart n m (back n ∙ h) (back m ∙ k) (place n ∙ same ∙ sym (place m));
-          sound = subst R (sym fired.limit) (subst Q (sym groups) (subst P (sym fired.part) (unlogged_sound mid limit (own_group now.part) sound)));
+          sound = subst R (sym fired.limit) (subst Q (sym groups) (subst H heres (subst P (sym fired.part)
+              (unlogged_sound (beside (here now) well.others mid) limit (own_group now.part) left))));
         }
       where
         back : (n : ℕ) → has n now.part ≡ has n new.part
         back n = ap (λ (x : List ℕ). nat_lt n (length x) && nat_lt (slice_index x n) (length now.part.nodes)) (sym fired.places)
             ∙ ap (λ (x : ℕ). nat_lt n (length new.part.places) && nat_lt (slice_index new.part.places n) x) (sym fired.count)
+
+        heres : here now ≡ here new
+        heres i = λ n. back n i
 
         place : (n : ℕ) → place_of n now.part ≡ place_of n new.part
         place n = ap (λ (x : List ℕ). slice_index x n) (sym fired.places)
@@ -122,9 +149,15 @@ module _ (lawful : (limit : ℕ) (shape : Shape) → IsLawful (rules limit) (hea
         let limit = now.part.limit in
         let mid = part_after (rules limit) (own_group now.part) 0 end (part_of now) r in
         let count = length now.part.places in
-        let Q : ℕ → Type 0 = λ x. IsBounded (rules limit) (health well.shape) x (room limit) in
-        let less = part-spends (rules limit) (health well.shape) (lawful limit well.shape) (own_group now.part) 0 end count (room limit) (part_of now) r
-        (subst Q well.nodes (bounded limit well.shape)) well.sound.health is in
+        let bounds = bounded limit well.shape in
+        let event_ok = first-holds (below end) (health well.shape).event now.pending r.event well.sound.health.pending found.event in
+        let known : r.event.key.node.0 < count = subst (λ (x : ℕ). r.event.key.node.0 < x) well.nodes (bounds.target r.event event_ok) in
+        let spent = bounds.spent (beside (here now) well.others (part_of now)).world r.event r.effect well.sound.health event_ok
+        (next-found (rules limit) (below end) (beside (here now) well.others (part_of now)).world r is_beside).effect in
+        let reads : cond (here now r.event.key.node.0) ((part_of now).world.nodes r.event.key.node.0) (well.others r.event.key.node.0)
+        ≡ (part_of now).world.nodes r.event.key.node.0 = rw target_here refl in
+        let spent_here = subst (λ (x : PlainNode). room limit r.effect.node + length r.effect.sends ≤ room limit x) reads spent in
+        let less = spends (rules limit) (here now) well.others (own_group now.part) 0 end (part_of now) r target_here count (room limit) known spent_here is in
         let same : firings_left new ≡ most_firings count (room limit) mid.world =
         ap (λ (x : List ℕ). most_firings (length x) (room new.part.limit) (part_of new).world) fired.places
         ∙ ap (λ (x : ℕ). most_firings count (room x) (part_of new).world) fired.limit

@@ -22,7 +22,7 @@ use Rattle.lp_run.proofs.NewLaws.{counted-new}
 use Rattle.lp_run.proofs.Nodes.{has-place}
 use Rattle.lp_run.proofs.Steps.{lp_after, step-fires, step-next, step-refused}
 
-group-has : (here : Bool) → ◌≡◌ {A = ℕ} (cond here 0 1) 0 → here ≡ true
+pub group-has : (here : Bool) → ◌≡◌ {A = ℕ} (cond here 0 1) 0 → here ≡ true
 group-has true h = refl
 group-has false h = absurd (omega arith)
 
@@ -59,8 +59,11 @@ module _ (end : ℕ) (lp : PlainLp) (well : IsWellLp lp) (e : NodeEvent Packet) 
   unfolding nodes_of
   reads = rw is_here (ap (node_or n) at)
 
+  beside_reads : cond (has n lp.part) (nodes_of lp.part n) (well.others n) ≡ node
+  beside_reads = rw is_here reads
+
   node_ok : IsWellNode well.shape n node
-  node_ok = subst (IsWellNode well.shape n) reads (well.sound.health.nodes n)
+  node_ok = subst (IsWellNode well.shape n) beside_reads (well.sound.health.nodes n)
 
   found : first (below end) lp.pending ≡ Some (event_of e)
   found = ap (first (below end)) pending_is ∙ (first-of end (event_of e) rest low).0
@@ -76,7 +79,8 @@ module _ (end : ℕ) (lp : PlainLp) (well : IsWellLp lp) (e : NodeEvent Packet) 
   refuses is = (found, step-refused end lp e rest node is_here at found left ((fire-none lp.part e node (λ lan. Some tt) at).0 is))
 
   abbrev Counted : Event (Load Packet) → Type 0
-  Counted x = own_group lp.part x.key.by.0 ≡ 0 → x.key.count < (nodes_of lp.part x.key.by.0).scheduled
+  Counted x = own_group lp.part x.key.by.0 ≡ 0 →
+      x.key.count < (cond (has x.key.by.0 lp.part) (nodes_of lp.part x.key.by.0) (well.others x.key.by.0)).scheduled
 
   module _ (f : Fired) (is : fire e lp.part ≡ Some f) where
     abbrev so : FiresSo lp.part e node (λ lan. Some tt) f
@@ -91,7 +95,7 @@ module _ (end : ℕ) (lp : PlainLp) (well : IsWellLp lp) (e : NodeEvent Packet) 
         less : (x : Event (Load Packet)) → Counted x → x.key.by.0 ≡ n → x.key.count < node.scheduled
         less x counted by =
             let own : own_group lp.part x.key.by.0 ≡ 0 = ap (own_group lp.part) by ∙ rw is_here refl in
-            subst (λ (y : PlainNode). x.key.count < y.scheduled) (ap (nodes_of lp.part) by ∙ reads) (counted own)
+            subst (λ (y : PlainNode). x.key.count < y.scheduled) (ap (λ (m : ℕ). cond (has m lp.part) (nodes_of lp.part m) (well.others m)) by ∙ beside_reads) (counted own)
 
     pub steps : IsStep end lp (lp_after lp rest f) true
     steps = (

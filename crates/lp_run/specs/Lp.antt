@@ -54,12 +54,21 @@ part_of lp = record {
 abbrev pub StandApart : PlainPart → Type 0
 StandApart part = (n m : ℕ) → has n part ≡ true → has m part ≡ true → place_of n part ≡ place_of m part → n ≡ m
 
--- a group whose nodes and events are well
+-- a part of the rounds, beside which the nodes that aren't here are these
+abbrev pub beside : (ℕ → Bool) → (ℕ → PlainNode) → Part PlainNode NoLan (Load Packet) Text → Part PlainNode NoLan (Load Packet) Text
+beside here others p = record p { world = record p.world { nodes = λ n. if here n then p.world.nodes n else others n } }
+
+-- whether a node is one of the group's
+abbrev pub here : PlainLp → ℕ → Bool
+here lp node = has node lp.part
+
+-- a group whose nodes and events are well, beside nodes of other groups that are well too
 pub record IsWellLp (lp : PlainLp) : Type 0 where
   pub shape : Shape
+  pub others : ℕ → PlainNode
   pub nodes : shape.nodes ≡ length lp.part.places
   pub apart : StandApart lp.part
-  pub sound : IsPartSound (rules lp.part.limit) (health shape) (own_group lp.part) 0 (part_of lp)
+  pub sound : IsPartSound (rules lp.part.limit) (health shape) (own_group lp.part) 0 (beside (here lp) others (part_of lp))
 
 -- a part of the rounds, without its log
 abbrev pub unlogged_part : Part PlainNode NoLan (Load Packet) Text → Part PlainNode NoLan (Load Packet) Text

@@ -37,7 +37,7 @@ members-below lists nodes i list slice all lt is value =
     let n = length-node_lists lists in
     subst P (get_or-node_lists lists i list lt is ∙ sym value) (all i [] (omega arith))
 
-abbrev held-by : ℕ → ℕ → ℕ × List ℕ → ℕ
+abbrev pub held-by : ℕ → ℕ → ℕ × List ℕ → ℕ
 held-by node held group = if list_any (λ member. member == node) group.1 then group.0 else held
 
 enumerate-push : {X : Type 0} (n : ℕ) (xs : List X) (x : X) → enumerate_from n (xs ++ x ∷ []) ≡ enumerate_from n xs ++ (n + length xs, x) ∷ []

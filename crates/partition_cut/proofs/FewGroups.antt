@@ -36,7 +36,7 @@ one-of m a (suc n) low lt =
     ]
 
 -- a group's members, counted node by node
-group-total : (n : ℕ) (group : List ℕ) → All (λ member. member < n) group →
+pub group-total : (n : ℕ) (group : List ℕ) → All (λ member. member < n) group →
     sum_by (λ node. count_by (λ member. member == node) group) (range_with_len 0 n) ≡ length group
 group-total n [] low = sum-zero (range_with_len 0 n)
   where

@@ -9,3 +9,4 @@ pub mod RankLaws
 pub mod PairLaws
 pub mod AutoLaws
 pub mod TestLaws
+pub mod UsedGroups

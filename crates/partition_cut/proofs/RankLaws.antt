@@ -29,10 +29,10 @@ rank-step labels k =
     ap (sum_by (counts labels)) (range-push 0 k) ∙ sum_by_push (counts labels) (range_with_len 0 k) (0 + k)
     ∙ ap (λ x. rank labels k + counts labels x) z
 
-own-step : (labels : List ℕ) (k : ℕ) → get_or labels k 0 ≡ k → rank labels (suc k) ≡ rank labels k + 1
+pub own-step : (labels : List ℕ) (k : ℕ) → get_or labels k 0 ≡ k → rank labels (suc k) ≡ rank labels k + 1
 own-step labels k own = rank-step labels k ∙ (let t = eq-eqb (get_or labels k 0) k own in rw t refl)
 
-other-step : (labels : List ℕ) (k : ℕ) → get_or labels k 0 ≢ k → rank labels (suc k) ≡ rank labels k
+pub other-step : (labels : List ℕ) (k : ℕ) → get_or labels k 0 ≢ k → rank labels (suc k) ≡ rank labels k
 other-step labels k other =
     let e : rank labels (suc k) ≡ rank labels k + 0 = rank-step labels k ∙ (let f = ne_eqb (get_or labels k 0) k other in rw f refl) in
     omega arith

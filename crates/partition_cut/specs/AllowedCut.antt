@@ -36,10 +36,11 @@ abbrev pub least_with_link : (ℕ → ℕ) → Option Time → Link → Option T
 least_with_link group_of least link =
     if group_of link.0 == group_of link.1 then least else Some (sooner_of least link.2)
 
--- an allowed cut: each node is in one of the groups, which are no more than the nodes
+-- an allowed cut: each node is in one of the groups, each group has a node, and so there are no more groups than nodes
 pub record IsCutOf (shape : Shape) (cut : Cut) : Type 0 where
   pub each : length cut.group_of.items ≡ shape.nodes
   pub within : All (λ group. group < cut.groups) cut.group_of.items
+  pub used : (g : ℕ) → g < cut.groups → Any (λ group. group ≡ g) cut.group_of.items
   pub few : cut.groups ≤ shape.nodes
   pub allowed : IsAllowed shape (group_at cut.group_of.items)
   pub lookahead : IsLookahead (group_at cut.group_of.items) shape.links.items cut.lookahead

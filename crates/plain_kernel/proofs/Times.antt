@@ -42,7 +42,7 @@ module _ {Node Lan Load Text : Type 0} (rules : Rules Node Lan Load Text) (end :
   fired-below (suc n) w h = fired-below n (fire rules (below end) w) (below-next w h)
 
 module _ (end : ℕ) where
-  abbrev AreBelow : List (Line Packet) → Type 0
+  abbrev pub AreBelow : List (Line Packet) → Type 0
   AreBelow lines = AllByRecursion (λ l. l.key.time.0 < end) lines
 
   texts-below : (key : Key) (index : ℕ) (texts : List Text) → key.time.0 < end → AreBelow (map trace_line (numbered key index texts))
@@ -56,7 +56,7 @@ module _ (end : ℕ) where
       (all-append (λ (l : Line Packet). l.key.time.0 < end) (map trace_line (numbered f.key 0 f.texts)) (map trace_line (lines_of fired))
       (texts-below f.key 0 f.texts h.0) (lines-below fired h.1))
 
-run-below : (w : PlainWorld) → AreBelow w.stop.0 (run_lines w)
+pub run-below : (w : PlainWorld) → AreBelow w.stop.0 (run_lines w)
 unfolding run_lines ending plain_run opening
 run-below w =
     let final = plain_run (rules w.limit) w.stop.0 (length w.nodes) (room w.limit) (start w) in
@@ -66,7 +66,7 @@ run-below w =
     (fired-below (rules w.limit) w.stop.0 (most_firings (length w.nodes) (room w.limit) (start w)) (start w) tt))
 
 module _ {P : Type 0} (plain : P → Packet) (end : ℕ) (early : end ≤ 10 ^ 12) where
-  own-times : (lines : List (Line P)) → AreBelow end (map (plain_line plain) lines) → AllByRecursion IsInTime lines
+  pub own-times : (lines : List (Line P)) → AreBelow end (map (plain_line plain) lines) → AllByRecursion IsInTime lines
   own-times [] h = tt
   own-times (l ∷ lines) h = (omega (arith, h.0), own-times lines h.1)
 

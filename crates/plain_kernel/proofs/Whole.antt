@@ -1,5 +1,5 @@
 -- A group that has all nodes is the whole world.
-use Rattle.std.proofs.Common.{◌≡◌, ℕ, ◌<◌, true, false, [], length, map, slice_get, refl, sym, ap, ◌∙◌, subst, arith, nat_lt, inl, inr, None, Some, Option, zero, suc}
+use Rattle.std.proofs.Common.{◌≡◌, ℕ, ◌<◌, Bool, cond, true, false, [], length, map, slice_get, refl, sym, ap, ◌∙◌, subst, arith, nat_lt, inl, inr, None, Some, Option, zero, suc}
 use Rattle.std.specs.List.{range_with_len}
 use Rattle.std.proofs.lemmas.Bool.{cases_Bool, eq-eqb, lt-ltb, ltb-false, ltb-true}
 use Rattle.std.proofs.lemmas.List.FromFn.{get_or-range_with_len, length-range_with_len}
@@ -23,7 +23,7 @@ use Rattle.node_rules.specs.Health.{health}
 use Rattle.node_rules.specs.Rules.{NoLan, rules}
 use Rattle.node_rules.specs.Worlds.{event_of, node_at, node_or, shape_of}
 use Rattle.node_rules.proofs.RuleLaws.{lawful}
-use Rattle.lp_run.specs.Lp.{IsWellLp, PlainLp, made, nodes_of, own_group, part_of}
+use Rattle.lp_run.specs.Lp.{IsWellLp, PlainLp, beside, here, made, nodes_of, own_group, part_of}
 use Rattle.sim_world.specs.Opening.{OpensRuns}
 use Rattle.sim_world.specs.World.{PlainWorld}
 use Rattle.plain_kernel.specs.Run.{RunWorld, start}
@@ -90,6 +90,22 @@ module _ (w : PlainWorld) where
       counted = all-map _ _ (λ e low mine. low) _ at_start.counted;
     }
 
+    either-node : (there : Bool) (node : PlainNode) → node ≡ cond there node node
+    either-node true node = refl
+    either-node false node = refl
+
+    -- beside its own nodes it is the same
+    same-beside : part_of (group w) ≡ beside (here (group w)) (nodes_of (whole w)) (part_of (group w))
+    same-beside i = record {
+      world = record {
+        nodes = λ n. either-node (here (group w) n) (nodes_of (whole w) n) i;
+        lans = (part_of (group w)).world.lans;
+        pending = (part_of (group w)).world.pending;
+        fired = (part_of (group w)).world.fired;
+      };
+      sent = (part_of (group w)).sent;
+    }
+
     inside : (n : ℕ) → has n (whole w) ≡ true → n < count
     inside n h = elim (cases_Bool (nat_lt n count)) [
       | inl t ↦ ltb-true n count t
@@ -99,9 +115,11 @@ module _ (w : PlainWorld) where
     pub well : IsWellLp (group w)
     well = record {
       shape = shape_of w.nodes;
+      others = nodes_of (whole w);
       nodes = sym (length-range_with_len 0 count);
       apart = λ n m h k same. sym (place-is n (inside n h)) ∙ same ∙ place-is m (inside m k);
-      sound = group-sound;
+      sound = subst (λ (p : Part PlainNode NoLan (Load Packet) Text). IsPartSound (rules w.limit) (health (shape_of w.nodes)) (own_group (whole w)) 0 p)
+          same-beside group-sound;
     }
 
     -- its firings are plain firings

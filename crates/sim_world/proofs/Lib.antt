@@ -8,3 +8,4 @@ pub mod PlanLaws
 pub mod WiringLaws
 pub mod TickLaws
 pub mod WorldLaws
+pub mod ShareLaws

@@ -7,3 +7,4 @@ pub mod Ticks
 pub mod World
 pub mod Plan
 pub mod Opening
+pub mod Shares

@@ -8,6 +8,7 @@ mod grouping;
 mod not_built;
 mod plan;
 mod routing;
+mod shares;
 mod ticks;
 mod world;
 

@@ -1,14 +1,17 @@
 //! The world in which the run of a scenario begins.
 
-ghost use Rattle.std.specs.Prelude.{◌≡◌, false, length, map, IfOk};
+ghost use Rattle.std.specs.Prelude.{◌≡◌, ◌<◌, ◌^◌, All, false, length, map, IfOk};
 ghost use Rattle.std.specs.List.{range_with_len};
 ghost use Rattle.node_step.specs.Loads.{plain_event};
 ghost use Rattle.scenario_form.specs.Limits.{IsWithinLimits};
 ghost use Rattle.sim_world.specs.NotBuilt.{not_built};
+ghost use Rattle.sim_world.specs.Shares.{AreSplit, part_seen};
 
 use crate::draft::Draft;
 use crate::plan::Plan;
+use crate::shares::{no_shares, parts_of, share_events, share_nodes};
 use node_step::{Event, Node, Part};
+use partition_cut::Cut;
 use pkt_face::Pkt;
 use scenario_form::Scenario;
 use sim_base::{NoMemory, Time};
@@ -70,6 +73,23 @@ impl<P: Pkt> World<P> {
         let alloc = *self.nodes.allocator();
         let part = Part::make(alloc, self.places, self.nodes, self.limit);
         (part, self.first)
+    }
+
+    /// The world in parts, one for each group of a cut, each with its first events. On `NoMemory` the world is given up.
+    pub fn split(self, cut: &Cut) -> Result<Vec<(Part<P>, Vec<Event<P>>)>, NoMemory>
+        requires each { length cut.now.group_of.items ≡ length self.nodes }
+        requires within { All (λ group. group < cut.now.groups) cut.now.group_of.items }
+        requires few { length self.nodes < 2 ^ 32 }
+        requires known { All (λ e. e.key.node.0 < length self.nodes) self.first }
+        ensures { IfOk result (λ parts. AreSplit self cut.now.group_of.items cut.now.groups (map (part_seen P.plain) parts.items)) }
+    {
+        let alloc = *self.nodes.allocator();
+        let group_of = cut.group_of.as_slice();
+        let mut shares = no_shares(alloc, cut.groups, self.nodes.len() as u32)?;
+        share_nodes(&mut shares, group_of, self.nodes)?;
+        share_events(&mut shares, group_of, self.first)?;
+        let parts = parts_of(alloc, shares, self.limit)?;
+        Ok(parts)
     }
 
     /// When the run stops.

@@ -4,8 +4,6 @@
 
 mod plays;
 mod row;
-#[cfg(test)]
-mod tests;
 mod view;
 
 pub use row::{Back, Pass, Row};

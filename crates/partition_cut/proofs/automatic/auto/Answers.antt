@@ -2,7 +2,8 @@ use Rattle.std.proofs.Common.{◌∙◌, ◌<◌, ℕ, List, All, length, map, s
 use Rattle.partition_cut.specs.AllowedCut.{IsLookahead}
 use Rattle.partition_cut.specs.AutoCut.{AreSettled, IsMedian, positive_delays, rank}
 use Rattle.partition_cut.specs.Network.{Link, group_at}
-use Rattle.partition_cut.proofs.AutoLaws.{few-numbers, groups-allowed, groups-joined, groups-numbered, labels-settled, length-labels, length-numbers, numbers-below}
+use Rattle.partition_cut.proofs.AutoLaws.{few-numbers, labels, groups-allowed, groups-joined, groups-numbered, labels-settled, length-labels, length-numbers, numbers-below}
+use Rattle.partition_cut.proofs.UsedGroups.{used-ranks}
 use Rattle.partition_cut.proofs.automatic.auto.Goals as goal
 
 pub numbers_of-requires-clause-settled : goal.numbers_of-requires-clause-settled
@@ -41,6 +42,8 @@ returns-clause-allowed c =
     record {
       each = length-numbers shape threshold c.requires numbers e;
       within = λ k d lt. let h = numbers-below shape threshold c.requires numbers e k d lt in omega arith;
+      used = λ number lt. used-ranks (labels shape threshold c.requires) numbers e
+          (length-numbers shape threshold c.requires numbers e ∙ sym (length-labels shape threshold c.requires)) number (omega arith);
       few = let h = few-numbers shape threshold c.requires numbers e in omega arith;
       allowed = groups-allowed shape threshold c.requires numbers e median;
       lookahead = subst P c.as_slice-2.ensures.value (subst Q c.deref-2.ensures.value c.least_cut_delay-lookahead.ensures);

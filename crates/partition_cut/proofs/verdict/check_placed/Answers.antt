@@ -5,6 +5,7 @@ use Rattle.partition_cut.specs.Network.{Link, group_at, node_lists}
 use Rattle.partition_cut.specs.Refusal.{group_in, network_refusal}
 use Rattle.partition_cut.proofs.CountLaws.{length-node_lists}
 use Rattle.partition_cut.proofs.FewGroups.{few-groups}
+use Rattle.partition_cut.proofs.UsedGroups.{used-groups}
 use Rattle.partition_cut.proofs.VerdictLaws.{network-allowed, numbers-within, placed-once, refused-network}
 use Rattle.partition_cut.proofs.verdict.check_placed.Goals as goal
 
@@ -45,6 +46,7 @@ returns-in-None-clause-allowed c =
     record {
       each = ap length e ∙ length-map-range_with_len (group_in groups) 0 c.args.shape.now.nodes;
       within = λ k d lt. let h = numbers-within c.args.shape.now groups items e c.requires.placed k d lt in omega arith;
+      used = λ g lt. used-groups c.args.shape.now groups items e c.requires.groups (placed-once c.args.shape.now groups c.requires.placed) g (omega arith);
       few = omega arith;
       allowed = network-allowed c.args.shape.now (group_at items) none;
       lookahead = subst P c.as_slice-numbers.ensures.value (subst Q c.deref.ensures.value c.least_cut_delay-lookahead.ensures);
