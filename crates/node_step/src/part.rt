@@ -1,6 +1,6 @@
 //! A part of the network: some of its nodes.
 
-ghost use Rattle.std.specs.Prelude.{◌≡◌, ◌≤◌, ◌^◌, ◌↔◌, IsTrue, IfOk, OnOk, OnErr, IfErr, IsSomeAnd};
+ghost use Rattle.std.specs.Prelude.{◌≡◌, ◌≤◌, ◌^◌, ◌⊎◌, ◌↔◌, IsTrue, IfNone, IfOk, IfSome, OnOk, OnErr, IfErr, IsSomeAnd, None, Some, length, slice_get};
 ghost use Rattle.layer_words.specs.Acts.{Appends};
 ghost use Rattle.pkt_face.specs.Seen.{plain_line};
 ghost use Rattle.node_step.specs.Loads.{plain_event};
@@ -41,7 +41,7 @@ impl<P: Pkt> Model for Part<P> {
 const LATEST: Time = Time(1_000_000_000_000);
 
 impl<P: Pkt> Part<P> {
-    ghost use Rattle.node_step.specs.Part.{CanFire, has, counts, drops, fire};
+    ghost use Rattle.node_step.specs.Part.{CanFire, has, counts, drops, fire, place_of};
     ghost use Rattle.node_step.specs.React.{Refuses};
 
     pub fn make(alloc: Global, places: Vec<u32>, nodes: Vec<Node<P>>, limit: u64) -> Part<P>
@@ -89,6 +89,17 @@ impl<P: Pkt> Part<P> {
         match self.places.get(node.0 as usize) {
             Some(place) => (*place as usize) < self.nodes.len(),
             None => false,
+        }
+    }
+
+    /// A node by its number, if it is among the part's.
+    pub fn node(&self, node: NodeId) -> Option<&Node<P>>
+        ensures some { IfSome result (λ found. slice_get self.now.nodes (place_of node.0 self.now) ≡ Some found.now) }
+        ensures none { IfNone result (slice_get self.now.nodes (place_of node.0 self.now) ≡ None ⊎ (length self.now.places ≤ node.0)) }
+    {
+        match self.places.get(node.0 as usize) {
+            Some(place) => self.nodes.get(*place as usize),
+            None => None,
         }
     }
 

@@ -1,9 +1,6 @@
 //! The capture files of a run, as the kernel sees them: each line that saves a packet goes to the file of its
 //! interface.
 
-#[cfg(test)]
-mod tests;
-
 ghost use Rattle.std.specs.Prelude.{◌≡◌, ◌+◌, ◌≤◌, ◌^◌, false, length, OnOk, OnErr};
 ghost use Rattle.outside.specs.Causes.{HasCause};
 ghost use Rattle.sim_run.specs.Pieces.{HasGrownByFronts, HasGrownFrom};

@@ -1,8 +1,0 @@
-use Rattle.tcp_flow.specs.Table.{AllFit}
-use Rattle.conns_rows.proofs.main.Given as goal
-
-abbrev pub invariant-loop-line : goal.invariant-loop-line
-invariant-loop-line l =
-    (goal.iterator-loop-line).can_next l.line-iterator
-    × (goal.iterator-loop-line).is_finite l.line-iterator
-    × AllFit l.node.conns.conns

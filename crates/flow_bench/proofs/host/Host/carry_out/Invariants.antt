@@ -1,8 +1,0 @@
-use Rattle.std.proofs.Common.{◌≡◌}
-use Rattle.flow_bench.proofs.host.Host.carry_out.Given as goal
-
-abbrev pub invariant-loop-act : goal.invariant-loop-act
-invariant-loop-act l =
-    (goal.iterator-loop-act).can_next l.act-iterator
-    × (goal.iterator-loop-act).is_finite l.act-iterator
-    × (l.self.conns ≡ l.initial.self.conns)

@@ -1,5 +1,0 @@
-use Rattle.lp_run.specs.Lp.{IsWellLp}
-use Rattle.group_runs.proofs.windows.run_group.Given as goal
-
-abbrev pub invariant-loop : goal.invariant-loop
-invariant-loop g l = IsWellLp l.group

@@ -1,0 +1,5 @@
+//! Tests of rows whose items threads draw by number.
+#![tactic(auto)]
+
+#[cfg(test)]
+mod rows;
