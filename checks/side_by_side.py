@@ -1,7 +1,9 @@
 #!/usr/bin/env python3
 """Runs drawn scenarios by a program and by the reference, and compares what they write.
 
-    checks/side_by_side.py PROGRAM COUNT
+    checks/side_by_side.py PROGRAM COUNT [FEATURE..]
+
+The features are those of random_scenario.py.
 """
 import pathlib
 import subprocess
@@ -10,12 +12,12 @@ import tempfile
 import tomllib
 
 import random_scenario
-import reference
+from simulator.run import Run
 
 
 def by_reference(scenario):
     """The text and the files, by name."""
-    run = reference.Run(tomllib.loads(scenario))
+    run = Run(tomllib.loads(scenario))
     run.run()
     return run.text(), dict(run.files())
 
@@ -27,17 +29,17 @@ def by_program(program, scenario):
 
 
 def main():
-    program, count = pathlib.Path(sys.argv[1]).resolve(), int(sys.argv[2])
+    program, count, features = pathlib.Path(sys.argv[1]).resolve(), int(sys.argv[2]), frozenset(sys.argv[3:])
     endings = {"events": 0, "limit": 0}
     packets = 0
     for seed in range(1, count + 1):
-        scenario = random_scenario.scenario(seed)
+        scenario = random_scenario.scenario(seed, features)
         (text, files), (said, written) = by_reference(scenario), by_program(program, scenario)
         if text != said:
             sys.exit(f"scenario {seed}: the reference says\n{text}and the program\n{said}")
         if files != written:
             differing = [name for name in sorted({*files, *written}) if files.get(name) != written.get(name)]
-            sys.exit(f"scenario {seed}: these captures differ: {', '.join(differing)}")
+            sys.exit(f"scenario {seed}: these files differ: {', '.join(differing)}")
         endings[text.split()[0]] += 1
         packets += sum(len(file) > 24 for file in files.values())
     print(f"passed, {count} drawn scenarios: {endings['events']} ended, {endings['limit']} met a limit; {packets} captures with packets")
