@@ -1,12 +1,16 @@
 -- What `cmp` answers of keys, as the order of keys.
-use Rattle.std.proofs.Common.{◌≡◌, ℕ, ◌==◌, ◌&&◌, ◌||◌, nat_lt, Bool, true, false, cond, refl, sym, ◌∙◌}
+use Rattle.std.proofs.Common.{◌≡◌, ◌≢◌, ℕ, ◌==◌, ◌&&◌, ◌||◌, nat_lt, Bool, true, false, cond, List, refl, sym, ◌∙◌, arith}
+use native.Mathlib.Decide.{dec_lt}
+use Rattle.std.proofs.lemmas.Bool.{lt-ltb, le-ltb}
+use Rattle.core.specs.Cmp.{IsTotalOrder, then_total, on_total, back_total, nat_cmp_total}
 use Rattle.std.specs.Ordering.{is_lt, nat_cmp, ordering_then}
 use Rattle.std.specs.declared.cmp.Ordering.{Ordering}
 use Rattle.std.specs.declared.cmp.Ordering.TheVariants.{Less, Equal, Greater}
-use Rattle.std.specs.declared.cmp.Reverse.{Reverse}
 use Rattle.sim_base.specs.declared.key.Key.{Key}
 use Rattle.sim_base.specs.KeyOrder.{before, earlier}
-use Rattle.event_queue.specs.Heap.{key_cmp, element_cmp}
+use Rattle.sim_base.proofs.KeyLaws.{time-before, before-not_back}
+use Rattle.event_queue.specs.Heap.{key_at, key_cmp, entry_cmp}
+use Rattle.event_queue.specs.declared.heap.Entry.{Entry}
 
 -- one number of a key, and then the rest
 then_lt : (x y : ℕ) (o : Ordering) (b : Bool) → is_lt o ≡ b →
@@ -35,11 +39,21 @@ key_cmp-before a b =
     then_lt a.time.0 b.time.0 (ordering_then (nat_cmp a.node.0 b.node.0) sent_at) _
     (then_lt a.node.0 b.node.0 sent_at _ (then_lt a.sent.0 b.sent.0 sender _ (then_lt a.by.0 b.by.0 count _ (last_lt a.count b.count))))
 
-not_first : (o p : Ordering) → is_lt (ordering_then o p) ≡ false → is_lt o ≡ false
-not_first Less p h = h
-not_first Equal p h = refl
-not_first Greater p h = refl
+-- keys are totally ordered, and so are the entries of a heap by their keys
+key_cmp-total : IsTotalOrder key_cmp
+key_cmp-total =
+    then_total (on_total (λ (k : Key). k.time.0) nat_cmp_total)
+    (then_total (on_total (λ (k : Key). k.node.0) nat_cmp_total)
+    (then_total (on_total (λ (k : Key). k.sent.0) nat_cmp_total)
+    (then_total (on_total (λ (k : Key). k.by.0) nat_cmp_total) (on_total (λ (k : Key). k.count) nat_cmp_total))))
 
--- an element that is no less than another of the heap has no later key
-pub not_less-before : (a b : Reverse Key × ℕ) → is_lt (element_cmp a b) ≡ false → before b.0.0 a.0.0 ≡ false
-not_less-before a b h = sym (key_cmp-before b.0.0 a.0.0) ∙ not_first (key_cmp b.0.0 a.0.0) (nat_cmp a.1 b.1) h
+pub entry_cmp-total : (keys : List Key) → IsTotalOrder (entry_cmp keys)
+entry_cmp-total keys = on_total (λ (e : Entry). key_at keys e.place) (back_total key_cmp-total)
+
+-- where the times differ they decide
+pub before-by_time : (a b : Key) → a.time.0 ≢ b.time.0 → nat_lt a.time.0 b.time.0 ≡ before a b
+before-by_time a b differ =
+    elim (dec_lt a.time.0 b.time.0) [
+      | yes first ↦ lt-ltb a.time.0 b.time.0 first ∙ sym (time-before a b first)
+      | no later ↦ le-ltb a.time.0 b.time.0 (omega (arith, later)) ∙ sym (before-not_back b a (time-before b a (omega (arith, later, differ))))
+    ]

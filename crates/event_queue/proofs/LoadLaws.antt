@@ -50,6 +50,15 @@ module _ {Load : Type 0} where
   some_load None h = absurd (let d : false ≡ true = h in cc)
   some_load (Some load) h = (load, refl)
 
+  -- no entry has a vacant place
+  pub places-free : (slots : List (Option Load)) (place : ℕ) (entries : List (Key × ℕ)) → AllByRecursion (IsHeld slots) entries → load_at slots place ≡ None →
+      AllByRecursion (λ entry. entry.1 ≢ place) entries
+  places-free slots place [] held vacant = tt
+  places-free slots place (entry ∷ entries) held vacant = (
+    λ same. let d : false ≡ true = ap is_some (sym vacant) ∙ ap (λ p. is_some (load_at slots p)) (sym same) ∙ held.0 in cc,
+    places-free slots place entries held.1 vacant,
+  )
+
   events-cons : (slots : List (Option Load)) (entry : Key × ℕ) (load : Load) (entries : List (Key × ℕ)) → load_at slots entry.1 ≡ Some load →
       events_at slots (entry ∷ entries) ≡ (entry.0, load) ∷ events_at slots entries
   events-cons slots entry load entries is = rw is refl

@@ -3,6 +3,7 @@
 #![tactic(auto)]
 
 mod agenda;
+mod heap;
 mod queue;
 #[cfg(test)]
 mod tests;

@@ -3,7 +3,7 @@ use Rattle.slab.specs.Slab.{Slab, Updates}
 use Rattle.event_queue.specs.Pending.{key_of, IsNew}
 use Rattle.sim_base.specs.KeyOrder.{insert_by}
 use Rattle.event_queue.specs.Loads.{HoldsLoads, events_at}
-use Rattle.event_queue.proofs.LoadLaws.{all_of_events, holds-pushed, events-pushed}
+use Rattle.event_queue.proofs.LoadLaws.{all_of_events, places-free, holds-pushed, events-pushed}
 use Rattle.event_queue.proofs.queue.Queue.push.Goals as goal
 
 record IsStored {T : Type 0} (old new : List (Option T)) (place : ℕ) (load : T) : Type 0 where
@@ -18,10 +18,16 @@ stored old before after at place load same here u = record {
   others = λ other away. u.others other (λ e. away (e ∙ here)) ∙ ap (λ slots. slice_index_or slots other None) same;
 }
 
-pub push-requires : goal.push-requires
-push-requires g c =
+pub push-requires-clause-new : goal.push-requires-clause-new
+push-requires-clause-new g c =
     all_of_events c.self.inside.loads.slots (λ key. key ≢ c.args.key) c.self.inside.agenda c.self.invariant.held
     (subst (IsNew c.args.key) (sym c.self.view_is) c.requires)
+
+pub push-requires-clause-free : goal.push-requires-clause-free
+push-requires-clause-free g c =
+    let same = ap (λ slab. slab.slots) c.in_ok-reserve.ensures.rest_kept in
+    places-free c.self.inside.loads.slots c.vacant_key.result c.self.inside.agenda c.self.invariant.held
+    (subst (λ slots. slice_index_or slots c.vacant_key.result None ≡ None) same c.vacant_key.ensures.vacant)
 
 pub invariant_of-self-2 : goal.invariant_of-self-2
 invariant_of-self-2 g c =
