@@ -1,16 +1,26 @@
 -- What a point-to-point device does.
-use Rattle.std.specs.Prelude.{ℕ, ◌+◌, ◌<◌, ◌≤◌, ◌^◌, true, false, List, [], ◌∷◌, ◌++◌, slice_range, if◌then◌else◌}
+use Rattle.std.specs.Prelude.{ℕ, ◌+◌, ◌≤◌, ◌^◌, true, false, List, [], ◌∷◌, ◌++◌, slice_range, if◌then◌else◌}
 use Rattle.std.specs.Int.{from_be_bytes, w16}
+use Rattle.sim_base.specs.Draws.{PlainRandom}
+use Rattle.sim_base.specs.Losses.{after_loss, with_frame}
 use Rattle.sim_base.specs.Packet.{Packet, len, pop_front}
 use Rattle.sim_base.specs.Time.{frame_time}
-use Rattle.layer_words.specs.Acts.{Stepped}
+use Rattle.frame_loss.specs.declared.fate.Fate.{Fate}
+use Rattle.frame_loss.specs.declared.fate.Fate.TheVariants.{Lost as LostFrame, Received}
+use Rattle.frame_loss.specs.Fate.{fate}
 use Rattle.p2p_dev.specs.declared.In.{In}
 use Rattle.p2p_dev.specs.declared.In.TheVariants.{Start, Sent, Arrive}
 use Rattle.p2p_dev.specs.declared.Act.{Act}
-use Rattle.p2p_dev.specs.declared.Act.TheVariants.{SentAt, ArriveAt, Save, Up}
+use Rattle.p2p_dev.specs.declared.Act.TheVariants.{SentAt, ArriveAt, Save, Lost, Up}
 use Rattle.p2p_dev.specs.Device.{Device}
 
--- a traced device saves each frame that it starts and each that arrives
+-- a device and its node's generator after a step, and what is to be done then, in this order
+pub record Own : Type 0 where
+  pub device : Device
+  pub random : PlainRandom
+  pub acts : List (Act Packet)
+
+-- a traced device saves each frame that it starts and each that it receives
 abbrev pub saved : Device → Packet → List (Act Packet)
 saved d frame = if d.traced then Save frame ∷ [] else []
 
@@ -26,30 +36,31 @@ leaves d start frame = start + frame_time d.rate (len frame)
 abbrev pub arrives : Device → ℕ → Packet → ℕ
 arrives d start frame = leaves d start frame + d.delay
 
--- a frame is sent with the device busy until it has left; one that arrives goes up without its header
-abbrev pub step : Device → In Packet → Stepped Device (Act Packet)
-step d (Start now frame) = record {
-  state = record d { busy = true };
-  acts = saved d frame ++ SentAt (record { 0 = leaves d now.0 frame }) ∷ ArriveAt (record { 0 = arrives d now.0 frame }) frame ∷ [];
+abbrev pub starts : ℕ → Packet → Device → List (Act Packet)
+starts now frame d =
+    saved d frame ++ SentAt (record { 0 = leaves d now frame }) ∷ ArriveAt (record { 0 = arrives d now frame }) frame ∷ []
+
+-- a packet without its header, for its protocol
+abbrev pub lifted : Packet → Act Packet
+lifted frame = Up (protocol frame) (pop_front 2 frame)
+
+-- a frame that is received goes up without its header
+abbrev pub comes_as : Device → Fate Packet → List (Act Packet)
+comes_as d (LostFrame frame) = Lost frame ∷ []
+comes_as d (Received frame) = saved d frame ++ lifted frame ∷ []
+
+-- a frame is sent with the device busy until it has left; one that comes is counted, and lost or received
+abbrev pub step : Device → PlainRandom → In Packet → Own
+step d r (Start now frame) = record { device = record d { busy = true }; random = r; acts = starts now.0 frame d }
+step d r Sent = record { device = record d { busy = false }; random = r; acts = [] }
+step d r (Arrive frame) = record {
+  device = record d { loss = with_frame d.loss };
+  random = after_loss r d.loss;
+  acts = comes_as d (fate r d.loss frame);
 }
-step d Sent = record { state = record d { busy = false }; acts = [] }
-step d (Arrive frame) = record { state = d; acts = saved d frame ++ Up (protocol frame) (pop_front 2 frame) ∷ [] }
 
 -- a frame has its header, and starts at a time of a run
 abbrev pub CanTake : In Packet → Type 0
 CanTake (Start now frame) = (now.0 ≤ 10 ^ 12) × (2 ≤ len frame)
 CanTake Sent = Unit {0}
 CanTake (Arrive frame) = 2 ≤ len frame
-
--- an act asks for no time but a later one
-abbrev pub IsLater : ℕ → Act Packet → Type 0
-IsLater now (SentAt at) = now < at.0
-IsLater now (ArriveAt at frame) = now < at.0
-IsLater now (Save frame) = Unit {0}
-IsLater now (Up proto packet) = Unit {0}
-
--- the same of an act that follows from an input
-abbrev pub IsLaterThan : In Packet → Act Packet → Type 0
-IsLaterThan (Start now frame) act = IsLater now.0 act
-IsLaterThan Sent act = IsLater 0 act
-IsLaterThan (Arrive frame) act = IsLater 0 act

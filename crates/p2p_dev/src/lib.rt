@@ -2,16 +2,22 @@
 //! queue disc and hands packets that arrive to IPv4.
 #![tactic(auto)]
 
-ghost use Rattle.std.specs.Prelude.{◌≡◌, ℕ, ◌≤◌, ◌<◌, ◌^◌, OnOk, All, false};
-ghost use Rattle.sim_base.specs.Packet.{Packet, len, longest};
+mod law;
+
+ghost use Rattle.std.specs.Prelude.{◌≡◌, ◌≤◌, ◌<◌, ◌^◌, [], ◌∷◌, ◌++◌, OnOk, true, false};
+ghost use Rattle.sim_base.specs.Losses.{after_loss, with_frame};
+ghost use Rattle.sim_base.specs.Packet.{len, longest};
 ghost use Rattle.sim_base.specs.Time.{frame_time};
 ghost use Rattle.layer_words.specs.Acts.{Appends};
-ghost use Rattle.p2p_dev.specs.Device.{Device, IsDevice};
+ghost use Rattle.frame_loss.specs.Fate.{fate};
+ghost use Rattle.p2p_dev.specs.Device.{IsDevice};
 ghost use Rattle.p2p_dev.specs.Seen.{plain_in, plain_act};
-ghost use Rattle.p2p_dev.specs.Step.{CanTake, IsLaterThan, saved, leaves, arrives, step};
+ghost use Rattle.p2p_dev.specs.Step.{CanTake, comes_as, lifted, saved, starts, step};
 
+use frame_loss::{Fate, receive};
+pub use law::{acts_come_later, frames_arrive_in_order};
 use pkt_face::Pkt;
-use sim_base::{Kind, NoMemory, Rate, Time};
+use sim_base::{Kind, Loss, NoMemory, Random, Rate, Time};
 use std::marker::Model;
 
 /// What happens to a device.
@@ -32,8 +38,10 @@ pub enum Act<P> {
     SentAt { at: Time },
     /// Let the frame arrive at the other end, then.
     ArriveAt { at: Time, frame: P },
-    /// Write the frame into the traces.
+    /// Write the frame into the traces: one that starts, or one that was received, as it was received.
     Save { frame: P },
+    /// A frame that came from the other end is lost.
+    Lost { frame: P },
     /// Hand a packet, without its header, to a protocol.
     Up { proto: u16, packet: P },
 }
@@ -45,33 +53,36 @@ pub struct P2p {
     delay: Time,
     traced: bool,
     busy: bool,
+    loss: Loss,
 }
 
 impl Model for P2p {
+    ghost use Rattle.frame_loss.specs.Fate.{fate};
     ghost use Rattle.p2p_dev.specs.Device.{Device, IsDevice};
 
     ghost Value = { Device };
 
-    ghost view = { λ d. record { rate = d.rate.0; delay = d.delay.0; traced = d.traced; busy = d.busy } };
+    ghost view = { λ d. record { rate = d.rate.0; delay = d.delay.0; traced = d.traced; busy = d.busy; loss = d.loss } };
 
-    ghost invariant = { λ d. IsDevice (record { rate = d.rate.0; delay = d.delay.0; traced = d.traced; busy = d.busy }) };
+    ghost invariant = { λ d. IsDevice (record { rate = d.rate.0; delay = d.delay.0; traced = d.traced; busy = d.busy; loss = d.loss }) };
 }
 
 impl P2p {
     pub const HEADER: u32 = 2;
 
     /// An idle device.
-    pub fn make(rate: Rate, delay: Time, traced: bool) -> P2p
+    pub fn make(rate: Rate, delay: Time, traced: bool, loss: Loss) -> P2p
         requires some_rate { 1 ≤ rate.0 }
         requires rate_in_range { rate.0 ≤ 10 ^ 12 }
         requires delay_in_range { delay.0 ≤ 10 ^ 12 }
-        ensures { result ≡ record { rate = rate.0; delay = delay.0; traced = traced; busy = false } }
+        ensures { result ≡ record { rate = rate.0; delay = delay.0; traced = traced; busy = false; loss = loss } }
     {
         P2p {
             rate,
             delay,
             traced,
             busy: false,
+            loss,
         }
     }
 
@@ -88,17 +99,18 @@ impl P2p {
         let _rate = self.rate;
     }
 
-    /// Takes an input and puts the acts that follow behind `out`. After `NoMemory` both are given up.
+    /// Takes an input, with the node's generator, and puts the acts that follow behind `out`. After `NoMemory` all are given up.
     pub fn step<P: Pkt>(
         &mut self,
         input: In<P>,
         maker: &mut P::Maker,
+        random: &mut Random,
         out: &mut Vec<Act<P>>,
     ) -> Result<(), NoMemory>
         requires { CanTake (plain_in P.plain input) }
-        ensures state { OnOk result (self.new ≡ (step self.old (plain_in P.plain input)).state) }
-        ensures acts { OnOk result (Appends (plain_act P.plain) out.old.items out.new.items (step self.old (plain_in P.plain input)).acts) }
-        ensures later { All (IsLaterThan (plain_in P.plain input)) (step self.old (plain_in P.plain input)).acts }
+        ensures state { OnOk result (self.new ≡ (step self.old random.old (plain_in P.plain input)).device) }
+        ensures random { OnOk result (random.new ≡ (step self.old random.old (plain_in P.plain input)).random) }
+        ensures acts { OnOk result (Appends (plain_act P.plain) out.old.items out.new.items (step self.old random.old (plain_in P.plain input)).acts) }
     {
         match input {
             In::Start { now, frame } => self.start(now, frame, maker, out),
@@ -106,10 +118,11 @@ impl P2p {
                 self.busy = false;
                 Ok(())
             }
-            In::Arrive { frame } => self.arrive(frame, maker, out),
+            In::Arrive { frame } => self.arrive(frame, maker, random, out),
         }
     }
 
+    /// Sends a frame, which takes the device until its last bit has left.
     fn start<P: Pkt>(
         &mut self,
         now: Time,
@@ -117,9 +130,10 @@ impl P2p {
         maker: &mut P::Maker,
         out: &mut Vec<Act<P>>,
     ) -> Result<(), NoMemory>
-        requires { CanTake (In.Start now (P.plain frame)) }
-        ensures state { OnOk result (self.new ≡ (step self.old (In.Start now (P.plain frame))).state) }
-        ensures acts { OnOk result (Appends (plain_act P.plain) out.old.items out.new.items (step self.old (In.Start now (P.plain frame))).acts) }
+        requires time { now.0 ≤ 10 ^ 12 }
+        requires header { 2 ≤ len (P.plain frame) }
+        ensures state { OnOk result (self.new ≡ record self.old { busy = true }) }
+        ensures acts { OnOk result (Appends (plain_act P.plain) out.old.items out.new.items (starts now.0 (P.plain frame) self.old)) }
     {
         let sent = now.0 + self.frame_time(frame.len());
         self.save(&mut frame, maker, out)?;
@@ -132,15 +146,38 @@ impl P2p {
         Ok(())
     }
 
+    /// Takes a frame from the other end.
     fn arrive<P: Pkt>(
         &mut self,
+        frame: P,
+        maker: &mut P::Maker,
+        random: &mut Random,
+        out: &mut Vec<Act<P>>,
+    ) -> Result<(), NoMemory>
+        requires { 2 ≤ len (P.plain frame) }
+        ensures state { OnOk result (self.new ≡ record self.old { loss = with_frame self.old.loss }) }
+        ensures random { OnOk result (random.new ≡ after_loss random.old self.old.loss) }
+        ensures acts { OnOk result (Appends (plain_act P.plain) out.old.items out.new.items (comes_as self.old (fate random.old self.old.loss (P.plain frame)))) }
+    {
+        let alloc = *out.allocator();
+        match receive(&mut self.loss, frame, alloc, maker, random)? {
+            Fate::Lost { frame } => {
+                out.push(Act::Lost { frame })?;
+                Ok(())
+            }
+            Fate::Received { frame } => self.lift(frame, maker, out),
+        }
+    }
+
+    /// Hands on the packet of a frame that was received.
+    fn lift<P: Pkt>(
+        &self,
         mut frame: P,
         maker: &mut P::Maker,
         out: &mut Vec<Act<P>>,
     ) -> Result<(), NoMemory>
-        requires { CanTake (In.Arrive (P.plain frame)) }
-        ensures state { OnOk result (self.new ≡ (step self.old (In.Arrive (P.plain frame))).state) }
-        ensures acts { OnOk result (Appends (plain_act P.plain) out.old.items out.new.items (step self.old (In.Arrive (P.plain frame))).acts) }
+        requires { 2 ≤ len (P.plain frame) }
+        ensures { OnOk result (Appends (plain_act P.plain) out.old.items out.new.items (saved self.now (P.plain frame) ++ lifted (P.plain frame) ∷ [])) }
     {
         self.save(&mut frame, maker, out)?;
         let mut proto = [0; 2];
@@ -181,10 +218,3 @@ impl P2p {
         self.rate.frame_time(bytes).0
     }
 }
-
-/// A frame that starts when the one before has left arrives after it.
-#[tactic(auto, using(crate::proofs::StepLaws::second_arrives_later))]
-pub fn frames_arrive_in_order()
-    ensures { (d : Device) (start next : ℕ) (first second : Packet) → IsDevice d → 2 ≤ len second
-        → leaves d start first ≤ next → arrives d start first < arrives d next second }
-{}

@@ -1,2 +1,5 @@
+pub mod BucketLaws
 pub mod DiscLaws
+pub mod BandLaws
 pub mod OrderLaws
+pub mod BudgetLaws
