@@ -1,0 +1,13 @@
+pub mod Seen
+pub mod Attachment
+pub mod SeenAttachment
+pub mod SeenDevice
+pub mod Iface
+pub mod Transit
+pub mod Devices
+pub mod Down
+pub mod Frames
+pub mod Resolution
+pub mod Up
+pub mod Step
+pub mod Law
