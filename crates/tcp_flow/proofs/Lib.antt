@@ -1,5 +1,6 @@
 pub mod SmallSteps
 pub mod Carrying
+pub mod Fitting
 pub mod Indexing
 pub mod Entries
 pub mod Lookups

@@ -1,9 +1,12 @@
 -- What a connection asks for fits packets and numbers, and what it is given fits them too.
-use Rattle.std.specs.Prelude.{◌^◌, ◌<◌, ◌≤◌, IfSome, length}
+use Rattle.std.specs.Prelude.{◌^◌, ◌<◌, ◌≤◌, IfSome, List, length, map}
+use Rattle.std.specs.List.{All}
 use Rattle.sim_base.specs.Packet.{Packet, len}
 use Rattle.tcp_conn.specs.Clock.{latest}
 use Rattle.tcp_conn.specs.declared.words.Effect.{Effect}
 use Rattle.tcp_conn.specs.declared.words.Effect.TheVariants.{Emit, Room, Deliver}
+use Rattle.tcp_flow.specs.declared.words.Act.{Act}
+use Rattle.tcp_flow.specs.declared.words.Act.TheVariants.{Emit as EmitAct}
 use Rattle.tcp_flow.specs.declared.words.In.{In}
 use Rattle.tcp_flow.specs.declared.words.In.TheVariants.{Connect, Listen, Segment as SegmentIn, Timer, Write, Close}
 use Rattle.tcp_flow.specs.declared.words.Event.{Event}
@@ -29,3 +32,12 @@ CanTake (SegmentIn now s) = (now.0 ≤ latest) × (len s.packet ≤ 65515)
 CanTake (Timer now conn stamp) = now.0 ≤ latest
 CanTake (Write now app bytes) = now.0 ≤ latest
 CanTake (Close now app) = now.0 ≤ latest
+
+-- a segment that is handed to IPv4 fits a datagram
+abbrev pub FitsDatagram : Act Packet → Type 0
+FitsDatagram (EmitAct s) = len s.packet ≤ 65515
+FitsDatagram other = Unit {0}
+
+-- what was put behind acts fits, as they do
+abbrev pub AddsFitting : {A : Type 0} → (A → Act Packet) → List A → List A → Type 0
+AddsFitting see old new = All FitsDatagram (map see old) → All FitsDatagram (map see new)

@@ -8,7 +8,7 @@ ghost use Rattle.tcp_conn.specs.OnItsWay.{bytes_of, said};
 ghost use Rattle.tcp_wire.specs.Segment.{segment};
 ghost use Rattle.tcp_flow.specs.Conn.{all_done, done, with_stamp};
 ghost use Rattle.tcp_flow.specs.Seen.{plain_act};
-ghost use Rattle.tcp_flow.specs.Small.{IsSmall};
+ghost use Rattle.tcp_flow.specs.Small.{AddsFitting, IsSmall};
 
 use crate::conn::Conn;
 use crate::words::{Act, Seg};
@@ -33,6 +33,7 @@ impl Conn {
         ensures conn { OnOk result (self.new ≡ (all_done self.old numbers.old effects.now).conn) }
         ensures numbers { OnOk result (numbers.new ≡ (all_done self.old numbers.old effects.now).numbers) }
         ensures acts { OnOk result (Appends (plain_act P.plain) out.old.items out.new.items (all_done self.old numbers.old effects.now).acts) }
+        ensures datagrams { OnOk result (AddsFitting (plain_act P.plain) out.old.items out.new.items) }
         ensures connection { OnOk result (self.new.connection ≡ self.old.connection) }
         ensures pair { self.new.pair ≡ self.old.pair }
     {
@@ -54,6 +55,7 @@ impl Conn {
         ensures conn { OnOk result (self.new ≡ (done self.old numbers.old effect.now).conn) }
         ensures numbers { OnOk result (numbers.new ≡ (done self.old numbers.old effect.now).numbers) }
         ensures acts { OnOk result (Appends (plain_act P.plain) out.old.items out.new.items (done self.old numbers.old effect.now).acts) }
+        ensures datagrams { OnOk result (AddsFitting (plain_act P.plain) out.old.items out.new.items) }
         ensures connection { OnOk result (self.new.connection ≡ self.old.connection) }
         ensures pair { self.new.pair ≡ self.old.pair }
     {

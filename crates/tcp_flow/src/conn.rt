@@ -8,6 +8,7 @@ ghost use Rattle.tcp_conn.specs.Fits.{Fits};
 ghost use Rattle.tcp_conn.specs.Step.{hears, times_out};
 ghost use Rattle.tcp_flow.specs.Conn.{begun, stepped};
 ghost use Rattle.tcp_flow.specs.Seen.{plain_act};
+ghost use Rattle.tcp_flow.specs.Small.{AddsFitting};
 
 use crate::words::Act;
 use pkt_face::Pkt;
@@ -46,6 +47,7 @@ impl Conn {
         ensures conn { IfOk result (λ k. k ≡ (begun number app pair numbers.old (opening now.0 mss)).conn) }
         ensures numbers { OnOk result (numbers.new ≡ (begun number app pair numbers.old (opening now.0 mss)).numbers) }
         ensures acts { OnOk result (Appends (plain_act P.plain) out.old.items out.new.items (begun number app pair numbers.old (opening now.0 mss)).acts) }
+        ensures datagrams { OnOk result (AddsFitting (plain_act P.plain) out.old.items out.new.items) }
         ensures fits { IfOk result (λ k. Fits k.connection) }
         ensures pair { IfOk result (λ k. k.pair ≡ pair) }
     {
@@ -77,6 +79,7 @@ impl Conn {
         ensures conn { IfOk result (λ k. k ≡ (begun number app pair numbers.old (heard_syn now.0)).conn) }
         ensures numbers { OnOk result (numbers.new ≡ (begun number app pair numbers.old (heard_syn now.0)).numbers) }
         ensures acts { OnOk result (Appends (plain_act P.plain) out.old.items out.new.items (begun number app pair numbers.old (heard_syn now.0)).acts) }
+        ensures datagrams { OnOk result (AddsFitting (plain_act P.plain) out.old.items out.new.items) }
         ensures fits { IfOk result (λ k. Fits k.connection) }
         ensures pair { IfOk result (λ k. k.pair ≡ pair) }
     {
@@ -109,6 +112,7 @@ impl Conn {
         ensures conn { OnOk result (self.new ≡ (stepped self.old numbers.old (hears now.0 arrived.now.says arrived.now.bytes self.old.connection)).conn) }
         ensures numbers { OnOk result (numbers.new ≡ (stepped self.old numbers.old (hears now.0 arrived.now.says arrived.now.bytes self.old.connection)).numbers) }
         ensures acts { OnOk result (Appends (plain_act P.plain) out.old.items out.new.items (stepped self.old numbers.old (hears now.0 arrived.now.says arrived.now.bytes self.old.connection)).acts) }
+        ensures datagrams { OnOk result (AddsFitting (plain_act P.plain) out.old.items out.new.items) }
         ensures fits { OnOk result (Fits self.new.connection) }
         ensures pair { self.new.pair ≡ self.old.pair }
     {
@@ -134,6 +138,7 @@ impl Conn {
         ensures conn { OnOk result (self.new ≡ (stepped self.old numbers.old (times_out now.0 self.old.connection)).conn) }
         ensures numbers { OnOk result (numbers.new ≡ (stepped self.old numbers.old (times_out now.0 self.old.connection)).numbers) }
         ensures acts { OnOk result (Appends (plain_act P.plain) out.old.items out.new.items (stepped self.old numbers.old (times_out now.0 self.old.connection)).acts) }
+        ensures datagrams { OnOk result (AddsFitting (plain_act P.plain) out.old.items out.new.items) }
         ensures fits { OnOk result (Fits self.new.connection) }
         ensures pair { self.new.pair ≡ self.old.pair }
     {
@@ -158,6 +163,7 @@ impl Conn {
         ensures conn { OnOk result (self.new ≡ (stepped self.old numbers.old (writes now.0 bytes.now self.old.connection)).conn) }
         ensures numbers { OnOk result (numbers.new ≡ (stepped self.old numbers.old (writes now.0 bytes.now self.old.connection)).numbers) }
         ensures acts { OnOk result (Appends (plain_act P.plain) out.old.items out.new.items (stepped self.old numbers.old (writes now.0 bytes.now self.old.connection)).acts) }
+        ensures datagrams { OnOk result (AddsFitting (plain_act P.plain) out.old.items out.new.items) }
         ensures fits { OnOk result (Fits self.new.connection) }
         ensures pair { self.new.pair ≡ self.old.pair }
     {
@@ -181,6 +187,7 @@ impl Conn {
         ensures conn { OnOk result (self.new ≡ (stepped self.old numbers.old (closes now.0 self.old.connection)).conn) }
         ensures numbers { OnOk result (numbers.new ≡ (stepped self.old numbers.old (closes now.0 self.old.connection)).numbers) }
         ensures acts { OnOk result (Appends (plain_act P.plain) out.old.items out.new.items (stepped self.old numbers.old (closes now.0 self.old.connection)).acts) }
+        ensures datagrams { OnOk result (AddsFitting (plain_act P.plain) out.old.items out.new.items) }
         ensures fits { OnOk result (Fits self.new.connection) }
         ensures pair { self.new.pair ≡ self.old.pair }
     {

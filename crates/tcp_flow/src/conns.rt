@@ -7,7 +7,7 @@ ghost use Rattle.tcp_conn.specs.Clock.{latest};
 ghost use Rattle.tcp_wire.specs.Segment.{arrived};
 ghost use Rattle.tcp_flow.specs.Index.{InOrder};
 ghost use Rattle.tcp_flow.specs.Seen.{plain_act, plain_in};
-ghost use Rattle.tcp_flow.specs.Small.{CanHappen, CanTake};
+ghost use Rattle.tcp_flow.specs.Small.{AddsFitting, CanHappen, CanTake};
 ghost use Rattle.tcp_flow.specs.Stray.{answering};
 ghost use Rattle.tcp_flow.specs.Table.{AllFit, AllWait, between, happens, under};
 ghost use Rattle.tcp_flow.specs.Conns.{is_opening};
@@ -45,7 +45,7 @@ impl Model for Conns {
 }
 
 impl Conns {
-    ghost use Rattle.tcp_flow.specs.Conns.{accepts, asks, comes, comes_new, comes_to, connects, fires, is_opening, no_conns, opens, step, with_conns};
+    ghost use Rattle.tcp_flow.specs.Conns.{accepts, asks, comes, comes_new, comes_to, connects, fires, is_opening, listens, no_conns, opens, step, with_conns};
 
     /// A node that has no connection.
     pub fn make(alloc: Global) -> Conns
@@ -56,6 +56,14 @@ impl Conns {
             opened: BTreeMap::new(alloc),
             table: Table::new(alloc),
         }
+    }
+
+    /// An application takes connections at a port.
+    pub fn listen(&mut self, app: u32, port: u16) -> Result<(), NoMemory>
+        ensures { OnOk result (self.new ≡ listens app port self.old) }
+    {
+        self.listening.insert(port, app)?;
+        Ok(())
     }
 
     /// Its connections are in the order of their numbers, each of which is there once; their positions are in order and
@@ -81,6 +89,7 @@ impl Conns {
         ensures state { OnOk result (self.new ≡ (step self.old numbers.old (plain_in P.plain input)).state) }
         ensures numbers { OnOk result (numbers.new ≡ (step self.old numbers.old (plain_in P.plain input)).numbers) }
         ensures acts { OnOk result (Appends (plain_act P.plain) out.old.items out.new.items (step self.old numbers.old (plain_in P.plain input)).acts) }
+        ensures datagrams { OnOk result (AddsFitting (plain_act P.plain) out.old.items out.new.items) }
     {
         match input {
             In::Connect {
@@ -104,10 +113,7 @@ impl Conns {
                 out.push(Act::Dropped)?;
                 Ok(())
             }
-            In::Listen { app, port } => {
-                self.listening.insert(port, app)?;
-                Ok(())
-            }
+            In::Listen { app, port } => self.listen(app, port),
             In::Segment { now, segment } => self.hear(now, &segment, maker, numbers, out),
             In::Timer { now, conn, stamp } => {
                 self.time_out(now, conn, stamp, maker, numbers, out)
@@ -136,6 +142,7 @@ impl Conns {
         ensures state { OnOk result (self.new ≡ (connects now.0 app pair mss self.old numbers.old).state) }
         ensures numbers { OnOk result (numbers.new ≡ (connects now.0 app pair mss self.old numbers.old).numbers) }
         ensures acts { OnOk result (Appends (plain_act P.plain) out.old.items out.new.items (connects now.0 app pair mss self.old numbers.old).acts) }
+        ensures datagrams { OnOk result (AddsFitting (plain_act P.plain) out.old.items out.new.items) }
     {
         match self.table.between(&pair) {
             Some(_) => {
@@ -163,6 +170,7 @@ impl Conns {
         ensures state { OnOk result (self.new ≡ (opens now.0 app pair mss self.old numbers.old).state) }
         ensures numbers { OnOk result (numbers.new ≡ (opens now.0 app pair mss self.old numbers.old).numbers) }
         ensures acts { OnOk result (Appends (plain_act P.plain) out.old.items out.new.items (opens now.0 app pair mss self.old numbers.old).acts) }
+        ensures datagrams { OnOk result (AddsFitting (plain_act P.plain) out.old.items out.new.items) }
     {
         let alloc = *out.allocator();
         let number = self.table.least_free()?;
@@ -185,6 +193,7 @@ impl Conns {
         ensures state { OnOk result (self.new ≡ (comes now.0 segment.now.src segment.now.dst (arrived segment.now.src segment.now.dst (P.plain segment.now.packet)) self.old numbers.old).state) }
         ensures numbers { OnOk result (numbers.new ≡ (comes now.0 segment.now.src segment.now.dst (arrived segment.now.src segment.now.dst (P.plain segment.now.packet)) self.old numbers.old).numbers) }
         ensures acts { OnOk result (Appends (plain_act P.plain) out.old.items out.new.items (comes now.0 segment.now.src segment.now.dst (arrived segment.now.src segment.now.dst (P.plain segment.now.packet)) self.old numbers.old).acts) }
+        ensures datagrams { OnOk result (AddsFitting (plain_act P.plain) out.old.items out.new.items) }
     {
         let alloc = *out.allocator();
         let found = read_segment(alloc, segment.src, segment.dst, &segment.packet)?;
@@ -215,6 +224,7 @@ impl Conns {
         ensures state { OnOk result (self.new ≡ (comes_to now.0 src dst arrived (between (answering src dst arrived) self.old.conns) self.old numbers.old).state) }
         ensures numbers { OnOk result (numbers.new ≡ (comes_to now.0 src dst arrived (between (answering src dst arrived) self.old.conns) self.old numbers.old).numbers) }
         ensures acts { OnOk result (Appends (plain_act P.plain) out.old.items out.new.items (comes_to now.0 src dst arrived (between (answering src dst arrived) self.old.conns) self.old numbers.old).acts) }
+        ensures datagrams { OnOk result (AddsFitting (plain_act P.plain) out.old.items out.new.items) }
     {
         let pair = answering(src, dst, &arrived);
         match self.table.between(&pair) {
@@ -239,6 +249,7 @@ impl Conns {
         ensures state { OnOk result (self.new ≡ (with_conns self.old (happens number now.0 event numbers.old self.old.conns)).state) }
         ensures numbers { OnOk result (numbers.new ≡ (happens number now.0 event numbers.old self.old.conns).numbers) }
         ensures acts { OnOk result (Appends (plain_act P.plain) out.old.items out.new.items (happens number now.0 event numbers.old self.old.conns).acts) }
+        ensures datagrams { OnOk result (AddsFitting (plain_act P.plain) out.old.items out.new.items) }
     {
         self.table.happens(now, number, &event, maker, numbers, out)
     }
@@ -260,6 +271,7 @@ impl Conns {
         ensures state { OnOk result (self.new ≡ (comes_new now.0 src dst arrived.now (under arrived.now.dport self.old.listening) self.old numbers.old).state) }
         ensures numbers { OnOk result (numbers.new ≡ (comes_new now.0 src dst arrived.now (under arrived.now.dport self.old.listening) self.old numbers.old).numbers) }
         ensures acts { OnOk result (Appends (plain_act P.plain) out.old.items out.new.items (comes_new now.0 src dst arrived.now (under arrived.now.dport self.old.listening) self.old numbers.old).acts) }
+        ensures datagrams { OnOk result (AddsFitting (plain_act P.plain) out.old.items out.new.items) }
     {
         let alloc = *out.allocator();
         let Some(app) = self.listening.get(&arrived.dport).copied() else {
@@ -286,6 +298,7 @@ impl Conns {
         ensures state { OnOk result (self.new ≡ (accepts now.0 app pair self.old numbers.old).state) }
         ensures numbers { OnOk result (numbers.new ≡ (accepts now.0 app pair self.old numbers.old).numbers) }
         ensures acts { OnOk result (Appends (plain_act P.plain) out.old.items out.new.items (accepts now.0 app pair self.old numbers.old).acts) }
+        ensures datagrams { OnOk result (AddsFitting (plain_act P.plain) out.old.items out.new.items) }
     {
         let alloc = *out.allocator();
         let number = self.table.least_free()?;
@@ -307,6 +320,7 @@ impl Conns {
         ensures state { OnOk result (self.new ≡ (fires now.0 number stamp self.old numbers.old).state) }
         ensures numbers { OnOk result (numbers.new ≡ (fires now.0 number stamp self.old numbers.old).numbers) }
         ensures acts { OnOk result (Appends (plain_act P.plain) out.old.items out.new.items (fires now.0 number stamp self.old numbers.old).acts) }
+        ensures datagrams { OnOk result (AddsFitting (plain_act P.plain) out.old.items out.new.items) }
     {
         if !self.table.has_stamp(number, stamp) {
             return Ok(());
@@ -330,6 +344,7 @@ impl Conns {
         ensures state { OnOk result (self.new ≡ (asks now.0 app event.now self.old numbers.old).state) }
         ensures numbers { OnOk result (numbers.new ≡ (asks now.0 app event.now self.old numbers.old).numbers) }
         ensures acts { OnOk result (Appends (plain_act P.plain) out.old.items out.new.items (asks now.0 app event.now self.old numbers.old).acts) }
+        ensures datagrams { OnOk result (AddsFitting (plain_act P.plain) out.old.items out.new.items) }
     {
         let Some(number) = self.opened.get(&app).copied() else {
             return Ok(());

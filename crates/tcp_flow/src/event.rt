@@ -7,7 +7,7 @@ ghost use Rattle.tcp_conn.specs.Fits.{Fits};
 ghost use Rattle.tcp_flow.specs.Conn.{happened};
 ghost use Rattle.tcp_flow.specs.Table.{is_closed};
 ghost use Rattle.tcp_flow.specs.Seen.{plain_act};
-ghost use Rattle.tcp_flow.specs.Small.{CanHappen};
+ghost use Rattle.tcp_flow.specs.Small.{AddsFitting, CanHappen};
 
 use crate::conn::Conn;
 use crate::words::{Act, Event};
@@ -32,6 +32,7 @@ impl Conn {
         ensures conn { OnOk result (self.new ≡ (happened now.0 event.now self.old numbers.old).conn) }
         ensures numbers { OnOk result (numbers.new ≡ (happened now.0 event.now self.old numbers.old).numbers) }
         ensures acts { OnOk result (Appends (plain_act P.plain) out.old.items out.new.items (happened now.0 event.now self.old numbers.old).acts) }
+        ensures datagrams { OnOk result (AddsFitting (plain_act P.plain) out.old.items out.new.items) }
         ensures fits { OnOk result (Fits self.new.connection) }
         ensures pair { self.new.pair ≡ self.old.pair }
     {

@@ -4,6 +4,7 @@ ghost use Rattle.std.specs.Prelude.{◌≡◌, ◌≤◌, ◌<◌, ◌^◌, OnOk
 ghost use Rattle.layer_words.specs.Acts.{Appends};
 ghost use Rattle.tcp_wire.specs.Segment.{segment};
 ghost use Rattle.tcp_flow.specs.Seen.{plain_act};
+ghost use Rattle.tcp_flow.specs.Small.{AddsFitting};
 ghost use Rattle.tcp_flow.specs.Stray.{answering, refusal, refused, reset_at};
 
 use crate::words::{Act, Seg};
@@ -27,6 +28,7 @@ pub fn refuse<P: Pkt>(
     requires { length arrived.now.bytes < 2 ^ 32 }
     ensures numbers { OnOk result (numbers.new ≡ (refused src dst arrived.now numbers.old).numbers) }
     ensures acts { OnOk result (Appends (plain_act P.plain) out.old.items out.new.items (refused src dst arrived.now numbers.old).acts) }
+    ensures datagrams { OnOk result (AddsFitting (plain_act P.plain) out.old.items out.new.items) }
 {
     if arrived.says.rst {
         return Ok(());

@@ -15,7 +15,7 @@ ghost use Rattle.tcp_conn.specs.Fits.{Fits};
 ghost use Rattle.tcp_flow.specs.Table.{AllFit, AllWait, between, happens, has_stamp, is_opener_of, least_free, under};
 ghost use Rattle.tcp_flow.specs.Index.{InOrder};
 ghost use Rattle.tcp_flow.specs.Seen.{plain_act};
-ghost use Rattle.tcp_flow.specs.Small.{CanHappen};
+ghost use Rattle.tcp_flow.specs.Small.{AddsFitting, CanHappen};
 
 use crate::conn::Conn;
 use crate::words::{Act, Event};
@@ -151,6 +151,7 @@ impl Table {
         ensures conns { OnOk result (self.new ≡ (happens number now.0 event.now numbers.old self.old).state) }
         ensures numbers { OnOk result (numbers.new ≡ (happens number now.0 event.now numbers.old self.old).numbers) }
         ensures acts { OnOk result (Appends (plain_act P.plain) out.old.items out.new.items (happens number now.0 event.now numbers.old self.old).acts) }
+        ensures datagrams { OnOk result (AddsFitting (plain_act P.plain) out.old.items out.new.items) }
     {
         let Some(conn) = self.conns.get_mut(&number) else {
             return Ok(());

@@ -140,6 +140,10 @@ size-le : (mss : Option ℕ) → written_size mss ≤ 24
 size-le None = omega arith
 size-le (Some mss) = omega arith
 
+-- a segment is longer than its data by its header
+pub len-segment-le : (uid : Uid) (app : ℕ) (pair : SocketPair) (s : Heard) (bytes : List ℕ) → len (segment uid app pair s bytes) ≤ 24 + length bytes
+len-segment-le uid app pair s bytes = omega (arith, len-segment uid app pair s bytes, size-le s.mss)
+
 fits : (pair : SocketPair) (s : Heard) (bytes : List ℕ) → IsSayable pair s bytes → FitsTcp (head_of pair s (checksum_of pair s bytes))
 fits pair s bytes h =
     record {

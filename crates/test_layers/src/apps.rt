@@ -8,7 +8,7 @@ ghost use Rattle.traffic_apps.specs.Step.{CanTake};
 use crate::packets;
 use anyhow::{Context, Result, bail, ensure};
 use pkt_face::{Pkt, PlainPkt};
-use sim_base::{Numbers, Time};
+use sim_base::{Numbers, Rate, Time};
 use std::alloc::{AllocError, Global};
 use traffic_apps::{Act, App, AppKind, In, Schedule};
 
@@ -44,17 +44,38 @@ pub fn apps(alloc: Global) -> Result<Vec<App>, AllocError> {
         dst: SERVER,
         schedule: schedule(56, 2, 0),
     };
+    let in_turn = AppKind::on_off(
+        SERVER,
+        9,
+        1000,
+        5,
+        3,
+        Rate(8_000_000),
+        Time(2_500_000),
+        Time(1_000_000),
+    );
     let apps = vec![in alloc;
         App::make(0, AppKind::UdpEchoServer),
         App::make(1, client),
         App::make(2, sender),
         App::make(3, ping),
         App::make(4, AppKind::UdpSink),
+        App::make(5, in_turn),
+        App::make(
+            6,
+            AppKind::TcpBulk {
+                dst: SERVER,
+                port: 80,
+                bytes: 260,
+                mss: 536,
+            }
+        ),
+        App::make(7, AppKind::TcpSink),
     ]?;
     Ok(apps)
 }
 
-/// `N tick NOW` or `N got SRC SPORT PACKET` of application N.
+/// `N tick NOW`, `N got SRC SPORT PACKET`, `N connected`, `N room FREE`, `N end` or `N reset` of application N.
 pub fn answer(
     alloc: Global,
     apps: &mut [App],
@@ -111,6 +132,12 @@ fn input<P: Pkt>(alloc: Global, words: &[&str]) -> Result<In<P>>
             ensure!(packet.len() <= 65_507, "too long for a datagram");
             Ok(In::Got { src, sport, packet })
         }
+        ["connected"] => Ok(In::Connected),
+        ["room", free] => Ok(In::Room {
+            free: free.parse::<u32>()?,
+        }),
+        ["end"] => Ok(In::End),
+        ["reset"] => Ok(In::Reset),
         _ => bail!("no input of an application"),
     }
 }
@@ -129,6 +156,12 @@ fn act_text<P: Pkt>(alloc: Global, act: &Act<P>) -> Result<String, AllocError> {
             let at = at.0;
             format!(in alloc; "tick {at}")
         }
+        Act::Connect { dst, port, mss } => format!(in alloc; "connect {dst:08x} {port} {mss}"),
+        Act::Write { bytes } => {
+            let digits = hex::encode(alloc, bytes.as_slice())?;
+            format!(in alloc; "write {digits}")
+        }
+        Act::Close => format!(in alloc; "close"),
     }
 }
 

@@ -5,7 +5,6 @@
 
 mod apps;
 mod datagrams;
-mod frames;
 mod packets;
 mod ports;
 
@@ -30,9 +29,6 @@ fn checksums(alloc: Global, src: &str, dst: &str, packet: &str) -> Result<String
 
 fn main(rt: HostRuntime) -> Result<()> {
     let alloc = rt.alloc();
-    let mut disc = frames::disc(alloc);
-    let mut traced = frames::device(true);
-    let mut untraced = frames::device(false);
     let router = datagrams::router(alloc)?;
     let mut numbers = packets::numbers();
     let ports = ports::ports(alloc)?;
@@ -45,9 +41,6 @@ fn main(rt: HostRuntime) -> Result<()> {
         }
         let words: Vec<&str> = line.split(' ').collect(alloc)?;
         let answer = match *words.as_slice() {
-            ["disc", ref input @ ..] => frames::disc_answer(alloc, &mut disc, input)?,
-            ["traced", ref input @ ..] => frames::device_answer(alloc, &mut traced, input)?,
-            ["untraced", ref input @ ..] => frames::device_answer(alloc, &mut untraced, input)?,
             ["ip", ref input @ ..] => datagrams::answer(alloc, &router, &mut numbers, input)?,
             ["ports", ref input @ ..] => ports::answer(alloc, &ports, &mut numbers, input)?,
             ["app", ref input @ ..] => apps::answer(alloc, &mut apps, &mut numbers, input)?,

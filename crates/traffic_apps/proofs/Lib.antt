@@ -1,2 +1,4 @@
 pub mod StepLaws
 pub mod RunLaws
+pub mod Turns
+pub mod Writes

@@ -3,3 +3,5 @@ pub mod Seen
 pub mod App
 pub mod Step
 pub mod Runs
+pub mod Stream
+pub mod Writing
