@@ -18,7 +18,8 @@ use Rattle.node_step.specs.Loads.{plain_event}
 use Rattle.node_step.specs.Part.{CanFire, Fired, PlainPart, fire}
 use Rattle.node_step.specs.React.{Refuses}
 use Rattle.node_rules.specs.Worlds.{event_of}
-use Rattle.lp_run.specs.Lp.{IsRefused, IsStep, IsWellLp, PlainLp, own_group, stop_at}
+use Rattle.node_rules.specs.Shape.{Shape}
+use Rattle.lp_run.specs.Lp.{IsRefused, IsStep, IsStepIn, IsWellIn, IsWellLp, PlainLp, own_group, stop_at}
 use Rattle.lp_run.specs.Pending.{AreNew}
 use Rattle.lp_run.proofs.Loop.{same_group}
 use Rattle.lp_run.proofs.Ready.{can, new, refuses, steps}
@@ -36,13 +37,14 @@ module _ {P : Type 0} (plain : P → Packet) (end : ℕ) (lp : PlainLp) (well : 
   e = plain_event plain (record { key = key; load = load })
 
   pub can-fire : end ≤ 10 ^ 12 → CanFire e lp.part
-  can-fire early = can end lp well e (held plain rest) pending_is low early
+  can-fire early = can well.0 end lp well.1 e (held plain rest) pending_is low early
 
   pub refused : (stop : FireStop) (after : PlainLp) → Refuses key.node (fire e lp.part) stop → after.lines ≡ lp.lines →
       IsRefused end lp after (stop_at key stop)
   refused NoMemory after h same = tt
   refused (Limit node) after h same =
-      let r = refuses end lp well e (held plain rest) pending_is low h.0 in (event_of e, r.0, refl, h.1, r.1, same)
+      let r = refuses well.0 end lp well.1 e (held plain rest) pending_is low h.0 in
+      (event_of e, r.0, refl, h.1, λ shape in_shape. (refuses shape end lp in_shape e (held plain rest) pending_is low h.0).1, same)
 
   -- what a part that has fired leaves
   abbrev pub HasLeft : PlainPart → List (NodeEvent P) → List (NodeEvent P) → List (Line P) → List (Line P) → Fired → Type 0
@@ -60,11 +62,11 @@ module _ {P : Type 0} (plain : P → Packet) (end : ℕ) (lp : PlainLp) (well : 
 
     pub are-new : AreNew (seen plain sends) (held plain rest)
     are-new = subst (λ (l : List (Event (Load Packet))). AreNew l (held plain rest)) (sym sends_are)
-        (new end lp well e (held plain rest) pending_is low left.0 left.1)
+        (new well.0 end lp well.1 e (held plain rest) pending_is low left.0 left.1)
 
     groups : own_group part ≡ own_group lp.part
     groups = ap own_group left.2.0
-        ∙ same_group lp (lp_after lp (held plain rest) left.0) _ (steps end lp well e (held plain rest) pending_is low left.0 left.1).2
+        ∙ same_group lp (lp_after lp (held plain rest) left.0) _ (steps well.0 end lp well.1 e (held plain rest) pending_is low left.0 left.1).2
 
     pub stepped : (after : PlainLp) → after.part ≡ part →
         after.pending ≡ insert_each (λ x. x.key) (filter (is_for (own_group part) 0) (seen plain sends)) (held plain rest) →
@@ -72,7 +74,7 @@ module _ {P : Type 0} (plain : P → Packet) (end : ℕ) (lp : PlainLp) (well : 
         after.lines ≡ map (plain_line plain) lines → after.fired ≡ count_up 1 lp.fired → IsStep end lp after true
     stepped after part_is pending sends_is lines_is fired =
         let at : lp_after lp (held plain rest) left.0 ≡ after = sym whole in
-        subst (λ (x : PlainLp). IsStep end lp x true) at (steps end lp well e (held plain rest) pending_is low left.0 left.1)
+        λ shape in_shape. subst (λ (x : PlainLp). IsStepIn shape end lp x) at (steps shape end lp in_shape e (held plain rest) pending_is low left.0 left.1)
       where
         events : List (Event (Load Packet))
         events = map event_of left.0.sends

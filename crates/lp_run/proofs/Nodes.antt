@@ -8,6 +8,11 @@ use Rattle.node_step.specs.Part.{PlainPart, has, place_of}
 use Rattle.node_rules.specs.Worlds.{node_or}
 use Rattle.lp_run.specs.Lp.{StandApart, nodes_of}
 
+-- the nodes of a part are told by where they stand
+pub nodes-by : (new part : PlainPart) → new.places ≡ part.places → new.nodes ≡ part.nodes → nodes_of new ≡ nodes_of part
+unfolding nodes_of
+nodes-by new part places nodes = λ i. nodes_of (record { places = places i; nodes = nodes i; lans = part.lans; limit = part.limit })
+
 -- a part in which the node at a place is another
 abbrev pub with_node : PlainPart → ℕ → PlainNode → PlainPart
 with_node part place node = record part { nodes = set part.nodes place node }

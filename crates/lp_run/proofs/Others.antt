@@ -4,6 +4,7 @@ use Rattle.std.proofs.lemmas.Bool.{cases_Bool, eqb-true}
 use Rattle.std.proofs.lemmas.List.Sums.{length-filter, count_by-le-length}
 use Rattle.std.specs.List.{AllByRecursion}
 use Rattle.sim_base.specs.Packet.{Packet}
+use Rattle.csma_dev.specs.declared.bus.Bus.{Bus}
 use Rattle.round_core.specs.Bound.{most_firings}
 use Rattle.round_core.specs.Order.{insert_each}
 use Rattle.round_core.specs.Parts.{Part, is_for, part_after}
@@ -15,13 +16,12 @@ use Rattle.round_core.proofs.Settling.{next-found}
 use Rattle.node_step.specs.declared.loads.Load.{Load}
 use Rattle.node_step.specs.Firing.{Text}
 use Rattle.node_step.specs.Node.{PlainNode}
-use Rattle.node_rules.specs.Rules.{NoLan}
 use Rattle.lp_run.specs.Lp.{beside}
 
 abbrev GroupPart : Type 0
-GroupPart = Part PlainNode NoLan (Load Packet) Text
+GroupPart = Part PlainNode Bus (Load Packet) Text
 
-module _ (rules : Rules PlainNode NoLan (Load Packet) Text) (here : ℕ → Bool) (others : ℕ → PlainNode) where
+module _ (rules : Rules PlainNode Bus (Load Packet) Text) (here : ℕ → Bool) (others : ℕ → PlainNode) where
   -- what is next is told by the nodes that are here, where all pending events are for these
   pub next-beside : (end : ℕ) (p : GroupPart) → AllByRecursion (λ e. here e.key.node.0 ≡ true) p.world.pending →
       next rules (below end) (beside here others p).world ≡ next rules (below end) p.world
@@ -36,7 +36,7 @@ module _ (rules : Rules PlainNode NoLan (Load Packet) Text) (here : ℕ → Bool
           let reads : cond (here e.key.node.0) (p.world.nodes e.key.node.0) (others e.key.node.0) ≡ p.world.nodes e.key.node.0 = rw at refl in
           ap (λ (x : PlainNode). allowed e (rules.react e x (seen rules e.key.node.0 p.world.lans))) reads
 
-  module _ (group_of : ℕ → ℕ) (g end : ℕ) (p : GroupPart) (r : Ready PlainNode NoLan (Load Packet) Text)
+  module _ (group_of : ℕ → ℕ) (g end : ℕ) (p : GroupPart) (r : Ready PlainNode Bus (Load Packet) Text)
       (at : here r.event.key.node.0 ≡ true) where
     abbrev target : ℕ
     target = r.event.key.node.0

@@ -13,10 +13,12 @@ use Rattle.node_step.specs.Node.{PlainNode}
 use Rattle.node_step.specs.Part.{CanFire, Fired, fire, has, place_of}
 use Rattle.node_rules.specs.Firings.{FiresSo}
 use Rattle.node_rules.specs.Health.{IsWellEvent, IsWellNode}
+use Rattle.node_rules.specs.Shape.{Shape, sits_on}
 use Rattle.node_rules.specs.Rules.{rules}
 use Rattle.node_rules.specs.Worlds.{event_of, no_node, node_or}
-use Rattle.node_rules.proofs.FireLaws.{can-fire, fire-none, fire-some}
-use Rattle.lp_run.specs.Lp.{IsStep, IsWellLp, PlainLp, nodes_of, own_group, part_of}
+use Rattle.node_rules.proofs.FireLaws.{all-pass, can-fire, fire-none, fire-some}
+use Rattle.node_rules.proofs.Frames.{AllPass}
+use Rattle.lp_run.specs.Lp.{IsStepIn, IsWellIn, PlainLp, nodes_of, own_group, part_of}
 use Rattle.lp_run.specs.Pending.{AreNew}
 use Rattle.lp_run.proofs.NewLaws.{counted-new}
 use Rattle.lp_run.proofs.Nodes.{has-place}
@@ -35,7 +37,7 @@ first-of : {Load : Type 0} (end : ℕ) (e : Event Load) (rest : List (Event Load
 unfolding first without_first
 first-of end e rest low = let h = lt-ltb e.key.time.0 end low in (rw h refl, rw h refl)
 
-module _ (end : ℕ) (lp : PlainLp) (well : IsWellLp lp) (e : NodeEvent Packet) (rest : List (Event (Load Packet)))
+module _ (shape : Shape) (end : ℕ) (lp : PlainLp) (well : IsWellIn shape lp) (e : NodeEvent Packet) (rest : List (Event (Load Packet)))
     (pending_is : lp.pending ≡ event_of e ∷ rest) (low : e.key.time.0 < end) where
   abbrev n : ℕ
   n = e.key.node.0
@@ -43,8 +45,8 @@ module _ (end : ℕ) (lp : PlainLp) (well : IsWellLp lp) (e : NodeEvent Packet) 
   abbrev node : PlainNode
   node = get_or lp.part.nodes (place_of n lp.part) (no_node n)
 
-  event_ok : IsWellEvent well.shape (event_of e)
-  event_ok = (subst (AllByRecursion (IsWellEvent well.shape)) pending_is well.sound.health.pending).0
+  event_ok : IsWellEvent shape (event_of e)
+  event_ok = (subst (AllByRecursion (IsWellEvent shape)) pending_is well.sound.health.pending).0
 
   pub is_here : has n lp.part ≡ true
   is_here = group-has (has n lp.part) (subst (AllByRecursion (λ (x : Event (Load Packet)). own_group lp.part x.key.node.0 ≡ 0)) pending_is well.sound.own).0
@@ -62,8 +64,11 @@ module _ (end : ℕ) (lp : PlainLp) (well : IsWellLp lp) (e : NodeEvent Packet) 
   beside_reads : cond (has n lp.part) (nodes_of lp.part n) (well.others n) ≡ node
   beside_reads = rw is_here reads
 
-  node_ok : IsWellNode well.shape n node
-  node_ok = subst (IsWellNode well.shape n) beside_reads (well.sound.health.nodes n)
+  node_ok : IsWellNode shape n node
+  node_ok = subst (IsWellNode shape n) beside_reads (well.sound.health.nodes n)
+
+  pass : AllPass (sits_on shape n) node.ifaces
+  pass = all-pass shape n node node_ok
 
   found : first (below end) lp.pending ≡ Some (event_of e)
   found = ap (first (below end)) pending_is ∙ (first-of end (event_of e) rest low).0
@@ -72,19 +77,19 @@ module _ (end : ℕ) (lp : PlainLp) (well : IsWellLp lp) (e : NodeEvent Packet) 
   left = ap (without_first (below end)) pending_is ∙ (first-of end (event_of e) rest low).1
 
   pub can : end ≤ 10 ^ 12 → CanFire e lp.part
-  can early = can-fire well.shape lp.part e node event_ok node_ok known at (omega arith)
+  can early = can-fire shape lp.part e node event_ok node_ok known at (omega arith)
 
   pub refuses : fire e lp.part ≡ None → (first (below end) lp.pending ≡ Some (event_of e))
-      × (next (rules lp.part.limit) (below end) (part_of lp).world ≡ None)
-  refuses is = (found, step-refused end lp e rest node is_here at found left ((fire-none lp.part e node (λ lan. Some tt) at).0 is))
+      × (next (rules lp.part.limit shape) (below end) (part_of lp).world ≡ None)
+  refuses is = (found, step-refused shape end lp e rest node is_here at found left ((fire-none shape lp.part e node well.lans pass at).0 is))
 
   abbrev Counted : Event (Load Packet) → Type 0
   Counted x = own_group lp.part x.key.by.0 ≡ 0 →
       x.key.count < (cond (has x.key.by.0 lp.part) (nodes_of lp.part x.key.by.0) (well.others x.key.by.0)).scheduled
 
   module _ (f : Fired) (is : fire e lp.part ≡ Some f) where
-    abbrev so : FiresSo lp.part e node (λ lan. Some tt) f
-    so = fire-some lp.part e node (λ lan. Some tt) at f is
+    abbrev so : FiresSo shape lp.part e node f
+    so = fire-some shape lp.part e node well.lans pass at f is
 
     pub new : AreNew (map event_of f.sends) rest
     new = subst (λ (l : List (Event (Load Packet))). AreNew l rest) (sym so.sends)
@@ -97,9 +102,9 @@ module _ (end : ℕ) (lp : PlainLp) (well : IsWellLp lp) (e : NodeEvent Packet) 
             let own : own_group lp.part x.key.by.0 ≡ 0 = ap (own_group lp.part) by ∙ rw is_here refl in
             subst (λ (y : PlainNode). x.key.count < y.scheduled) (ap (λ (m : ℕ). cond (has m lp.part) (nodes_of lp.part m) (well.others m)) by ∙ beside_reads) (counted own)
 
-    pub steps : IsStep end lp (lp_after lp rest f) true
+    pub steps : IsStepIn shape end lp (lp_after lp rest f)
     steps = (
       record { event = event_of e; effect = so.effect },
-      step-next end lp e rest node is_here at found left well.apart f so,
-      step-fires end lp e rest node is_here at found left well.apart f so,
+      step-next shape end lp e rest node is_here at found left well.apart f so,
+      step-fires shape end lp e rest node is_here at found left well.apart f so,
     )

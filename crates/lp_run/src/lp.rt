@@ -32,10 +32,14 @@ impl<P: Pkt> Model for Lp<P> {
     ghost use Rattle.node_rules.specs.Worlds.{event_of};
     ghost use Rattle.pkt_face.specs.Seen.{plain_line};
     ghost use Rattle.node_step.specs.Loads.{plain_event, plain_load};
+    ghost use Rattle.std.specs.Coded.{codes};
+    ghost use Rattle.tcp_flow.specs.contracts.conn.Conn as conn;
     ghost use Rattle.lp_run.specs.Lp.{PlainLp};
     ghost use Rattle.lp_run.specs.Pending.{pending_event};
 
     ghost Value = { PlainLp };
+
+    ghost coded = { Prim.hlevel (codes, conn.the_row.coded) };
 
     ghost view = { λ lp. record { part = lp.part; pending = map (pending_event (plain_load P.plain)) lp.pending; sends = map event_of (map (plain_event P.plain) lp.sends.items); lines = map (plain_line P.plain) lp.effects.lines.items; fired = lp.fired } };
 

@@ -3,7 +3,6 @@ use Rattle.std.proofs.Common.{◌≡◌, ℕ, ◌<◌, Option, None, Some, refl}
 use Rattle.std.specs.Prelude.{◌==◌, slice_range}
 use Rattle.std.proofs.lemmas.Bool.{cond_both}
 use Rattle.sim_base.specs.declared.numbers.Numbers.{Numbers}
-use Rattle.sim_base.specs.declared.time.Time.{Time}
 use Rattle.sim_base.specs.Packet.{Packet}
 use Rattle.header_forms.specs.declared.icmp.Icmp.{Icmp}
 use Rattle.header_forms.specs.declared.ipv4.Ipv4.{Ipv4}
@@ -12,7 +11,9 @@ use Rattle.header_forms.specs.Icmp.{icmp_of}
 use Rattle.layer_words.specs.Acts.{Made}
 use Rattle.ipv4_core.specs.declared.ip.Act.{Act as IpAct}
 use Rattle.ipv4_core.specs.declared.ip.Act.TheVariants.{Out, Local, Report as ReportByIp, Dropped as DroppedByIp}
-use Rattle.ipv4_core.specs.declared.ip.In.TheVariants.{Send}
+use Rattle.ipv4_core.specs.declared.ip.In.{In as IpIn}
+use Rattle.ipv4_core.specs.declared.ip.In.TheVariants.{Send, Arrive}
+use Rattle.ipv4_core.specs.Ip.{PlainIp}
 use Rattle.ipv4_core.specs.declared.routes.Hop.{Hop}
 use Rattle.ipv4_core.specs.declared.routes.Way.{Way}
 use Rattle.ipv4_core.specs.Ip.{sent, step as ip_step}
@@ -26,7 +27,7 @@ use Rattle.udp_icmp.specs.Ports.{PlainPorts}
 use Rattle.udp_icmp.specs.Step.{step as ports_step}
 use Rattle.node_step.specs.Node.{Progress, with_numbers}
 use Rattle.node_step.specs.Sending.{carry_sent, ip_sends, carry_to_ip, ports_send, report_by, report}
-use Rattle.node_rules.specs.Health.{Shape}
+use Rattle.node_rules.specs.Shape.{Shape}
 use Rattle.node_rules.proofs.DownKeeps.{send_packet-keeps}
 use Rattle.node_rules.proofs.Folds.{fold-keeps_all}
 use Rattle.node_rules.proofs.Kept.{Keeps, drop-keeps, numbers-keep}
@@ -35,6 +36,10 @@ sent-node : (numbers : Numbers) (src : Option ℕ) (dst proto : ℕ) (packet : P
     (sent numbers src dst proto packet way).numbers.node ≡ numbers.node
 sent-node numbers src dst proto packet None = refl
 sent-node numbers src dst proto packet (Some way) = refl
+
+pub ip-node : (ip : PlainIp) (numbers : Numbers) (input : IpIn Packet) → (ip_step ip numbers input).numbers.node ≡ numbers.node
+ip-node ip numbers (Send src dst proto packet) = sent-node numbers src dst proto packet (route dst ip.routes)
+ip-node ip numbers (Arrive packet) = refl
 
 -- a step of UDP or ICMP leaves the number of the node
 abbrev pub IsOfNode : Numbers → Made (PortsAct Packet) → Type 0
@@ -64,44 +69,42 @@ ports-node ports numbers (PingSend dst rest packet) = refl
 ports-node ports numbers (IcmpArrive head packet) = icmp-node ports head packet numbers (icmp_of (slice_range packet.bytes 0 8))
 ports-node ports numbers (Report kind code head packet) = reported-node kind code head packet numbers
 
-module _ (ok : Type 0) (shape : Shape) (now : Time) (n : ℕ) (known : ok → n < shape.nodes) (was : Progress) where
+module _ (ok : Type 0) (shape : Shape) (n : ℕ) (known : ok → n < shape.nodes) (was : Progress) where
   abbrev K : Progress → Type 0
-  K p = Keeps ok shape now.0 n was p
+  K p = Keeps ok shape n was p
 
-  carry_sent-keeps : (act : IpAct Packet) (p : Progress) → K p → K (carry_sent now p act)
+  carry_sent-keeps : (act : IpAct Packet) (p : Progress) → K p → K (carry_sent p act)
   unfolding carry_sent
-  carry_sent-keeps (Out iface neighbour packet) p k = send_packet-keeps ok shape now n known was iface packet p k
+  carry_sent-keeps (Out iface neighbour packet) p k = send_packet-keeps ok shape n known was iface neighbour packet p k
   carry_sent-keeps (Local head packet) p k = k
   carry_sent-keeps (ReportByIp kind code head packet) p k = k
-  carry_sent-keeps DroppedByIp p k = drop-keeps ok shape now.0 n was p k
+  carry_sent-keeps DroppedByIp p k = drop-keeps ok shape n was p k
 
-  pub ip_sends-keeps : (src : Option ℕ) (dst proto : ℕ) (packet : Packet) (p : Progress) → K p → K (ip_sends now src dst proto packet p)
+  pub ip_sends-keeps : (input : IpIn Packet) (p : Progress) → K p → K (ip_sends input p)
   unfolding ip_sends
-  ip_sends-keeps src dst proto packet p k =
-      let made : Made (IpAct Packet) = ip_step p.node.ip p.node.numbers (Send src dst proto packet) in
-      fold-keeps_all K (carry_sent now) (λ q act kept. carry_sent-keeps act q kept) made.acts (with_numbers made.numbers p)
-      (numbers-keep ok shape now.0 n was made.numbers p (sent-node p.node.numbers src dst proto packet (route dst p.node.ip.routes)) k)
+  ip_sends-keeps input p k =
+      let made : Made (IpAct Packet) = ip_step p.node.ip p.node.numbers input in
+      fold-keeps_all K carry_sent (λ q act kept. carry_sent-keeps act q kept) made.acts (with_numbers made.numbers p)
+      (numbers-keep ok shape n was made.numbers p (ip-node p.node.ip p.node.numbers input) k)
 
-  carry_to_ip-keeps : (act : PortsAct Packet) (p : Progress) → K p → K (carry_to_ip now p act)
+  carry_to_ip-keeps : (act : PortsAct Packet) (p : Progress) → K p → K (carry_to_ip p act)
   unfolding carry_to_ip
-  carry_to_ip-keeps (ToIp src dst proto packet) p k = ip_sends-keeps src dst proto packet p k
+  carry_to_ip-keeps (ToIp src dst proto packet) p k = ip_sends-keeps (Send src dst proto packet) p k
   carry_to_ip-keeps (ToApp app src sport packet) p k = k
   carry_to_ip-keeps (ReportByPorts kind code head packet) p k = k
-  carry_to_ip-keeps Dropped p k = drop-keeps ok shape now.0 n was p k
+  carry_to_ip-keeps Dropped p k = drop-keeps ok shape n was p k
 
-  pub ports_send-keeps : (input : PortsIn Packet) (p : Progress) → K p → K (ports_send now input p)
+  pub ports_send-keeps : (input : PortsIn Packet) (p : Progress) → K p → K (ports_send input p)
   unfolding ports_send
   ports_send-keeps input p k =
       let made : Made (PortsAct Packet) = ports_step p.node.ports p.node.numbers input in
-      fold-keeps_all K (carry_to_ip now) (λ q act kept. carry_to_ip-keeps act q kept) made.acts (with_numbers made.numbers p)
-      (numbers-keep ok shape now.0 n was made.numbers p (ports-node p.node.ports p.node.numbers input) k)
+      fold-keeps_all K carry_to_ip (λ q act kept. carry_to_ip-keeps act q kept) made.acts (with_numbers made.numbers p)
+      (numbers-keep ok shape n was made.numbers p (ports-node p.node.ports p.node.numbers input) k)
 
-  report_by-keeps : (kind code : ℕ) (head : Ipv4) (packet : Packet) (p : Progress) (way_back : Option Hop) → K p →
-      K (report_by now kind code head packet p way_back)
-  report_by-keeps kind code head packet p None k = k
-  report_by-keeps kind code head packet p (Some way_back) k = ports_send-keeps (Report kind code head packet) p k
+  report_by-keeps : (input : PortsIn Packet) (p : Progress) (way_back : Option Hop) → K p → K (report_by input p way_back)
+  report_by-keeps input p None k = k
+  report_by-keeps input p (Some way_back) k = ports_send-keeps input p k
 
-  pub report-keeps : (kind code : ℕ) (head : Ipv4) (packet : Packet) (p : Progress) → K p → K (report now kind code head packet p)
+  pub report-keeps : (src : ℕ) (input : PortsIn Packet) (p : Progress) → K p → K (report src input p)
   unfolding report
-  report-keeps kind code head packet p k =
-      report_by-keeps kind code head packet p (hop head.src (route head.src p.node.ip.routes)) k
+  report-keeps src input p k = report_by-keeps input p (hop src (route src p.node.ip.routes)) k

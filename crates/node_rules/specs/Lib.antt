@@ -1,3 +1,4 @@
+pub mod Shape
 pub mod Rules
 pub mod Health
 pub mod Worlds

@@ -3,7 +3,7 @@ use Rattle.std.proofs.Common.{◌≡◌, List, [], ◌∷◌, ◌++◌, map, fol
 use Rattle.std.proofs.lemmas.List.{map-append, reverse-append, reverse-reverse}
 use Rattle.layer_words.specs.Acts.{Appends}
 use Rattle.layer_words.proofs.InOrder.{fold_last}
-use Rattle.std.proofs.lemmas.List.Elements.{All-head, All-tail, All-push, All-pop, All-same}
+use Rattle.std.proofs.lemmas.List.Elements.{All-nil, All-head, All-tail, All-push, All-pop, All-same}
 
 All-reverse : {X : Type 0} (P : X → Type 0) (xs : List X) → All P xs → All P (reverse xs)
 All-reverse P [] h = h
@@ -34,3 +34,7 @@ leads-pop f see b next end xs ys x last is leads =
 -- acts that were put into an empty list fit where they fit in the table
 pub fit-made : {A X : Type 0} (P : X → Type 0) (see : A → X) (old new : List A) (acts : List X) → old ≡ [] → Appends see old new acts → All P acts → All P (map see new)
 fit-made P see old new acts none made h = All-same P (map see new) acts (made ∙ ap (λ xs. map see xs ++ acts) none) h
+
+-- of no act all holds
+pub fit-none : {A X : Type 0} (P : X → Type 0) (see : A → X) (xs : List A) → xs ≡ [] → All P (map see xs)
+fit-none P see xs none = All-same P (map see xs) [] (ap (map see) none) (All-nil P)

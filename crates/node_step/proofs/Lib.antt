@@ -1,4 +1,6 @@
 pub mod Numbering
 pub mod Fits
-pub mod DownLaws
 pub mod PartLaws
+pub mod ReactLaws
+pub mod Stages
+pub mod StepLaws

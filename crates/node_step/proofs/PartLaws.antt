@@ -32,22 +32,22 @@ is-node e part place node can at read =
     subst (λ k. k < length part.nodes) (sym found) (some-within part.nodes (place_of e.key.node.0 part) (CanHandle e.load) can.here) in
     record { at = found; here = slice_get_read part.nodes (length part.nodes) place node refl below read }
 
-fire-at : (e : Event Packet) (part : PlainPart) (place : ℕ) (node : PlainNode) → IsNode e part place node → fire e part ≡ allowed part place (react part.limit e node)
+fire-at : (e : Event Packet) (part : PlainPart) (place : ℕ) (node : PlainNode) → IsNode e part place node → fire e part ≡ allowed part place (react part.limit e node part.lans)
 fire-at e part place node is =
     ap (λ k. fire_at e part k (slice_get part.nodes k)) (sym is.at) ∙ ap (fire_at e part place) is.here
 
-refuses : (e : Event Packet) (part : PlainPart) (place : ℕ) (node : PlainNode) (stop : FireStop) → IsNode e part place node → Refuses e.key.node (react part.limit e node) stop → Refuses e.key.node (fire e part) stop
+refuses : (e : Event Packet) (part : PlainPart) (place : ℕ) (node : PlainNode) (stop : FireStop) → IsNode e part place node → Refuses e.key.node (react part.limit e node part.lans) stop → Refuses e.key.node (fire e part) stop
 refuses e part place node NoMemory is why = tt
 refuses e part place node (Limit who) is why = (fire-at e part place node is ∙ ap (allowed part place) why.0, why.1)
 
 -- the part refuses an event as the event's node does
-pub fire_refuses : (e : Event Packet) (part inside : PlainPart) (place : ℕ) (node : PlainNode) (stop : FireStop) → inside ≡ part → CanFire e part → place ≡ get_or inside.places e.key.node.0 place → node ≡ get_or inside.nodes place node → Refuses e.key.node (react inside.limit e node) stop → Refuses e.key.node (fire e part) stop
+pub fire_refuses : (e : Event Packet) (part inside : PlainPart) (place : ℕ) (node : PlainNode) (stop : FireStop) → inside ≡ part → CanFire e part → place ≡ get_or inside.places e.key.node.0 place → node ≡ get_or inside.nodes place node → Refuses e.key.node (react inside.limit e node inside.lans) stop → Refuses e.key.node (fire e part) stop
 fire_refuses e part inside place node stop same can at read why =
     let could : CanFire e inside = subst (CanFire e) (sym same) can in
     subst (λ p. Refuses e.key.node (fire e p) stop) same (refuses e inside place node stop (is-node e inside place node could at read) why)
 
 -- what the part becomes, and what it schedules and writes, is what its node becomes and asks for
-pub fire_reacts : (e : Event Packet) (part inside new : PlainPart) (place : ℕ) (node : PlainNode) (p : Progress) (S : List (Event Packet) → Type 0) (L : List (Line Packet) → Type 0) → inside ≡ part → CanFire e part → place ≡ get_or inside.places e.key.node.0 place → node ≡ get_or inside.nodes place node → react inside.limit e node ≡ Some p → new ≡ record inside { nodes = slice_set inside.nodes place p.node } → S (scheduled p.firing.key p.firing.before p.firing.requests) → L (numbered p.firing.key 0 p.firing.texts) → IsSomeAnd (fire e part) (λ f. (new ≡ f.part) × S f.sends × L f.lines)
+pub fire_reacts : (e : Event Packet) (part inside new : PlainPart) (place : ℕ) (node : PlainNode) (p : Progress) (S : List (Event Packet) → Type 0) (L : List (Line Packet) → Type 0) → inside ≡ part → CanFire e part → place ≡ get_or inside.places e.key.node.0 place → node ≡ get_or inside.nodes place node → react inside.limit e node inside.lans ≡ Some p → new ≡ record inside { nodes = slice_set inside.nodes place p.node; lans = p.firing.lans } → S (scheduled p.firing.key p.firing.before p.firing.requests) → L (numbered p.firing.key 0 p.firing.texts) → IsSomeAnd (fire e part) (λ f. (new ≡ f.part) × S f.sends × L f.lines)
 fire_reacts e part inside new place node p S L same can at read reacts is sends lines =
     let could : CanFire e inside = subst (CanFire e) (sym same) can in
     let fires : fire e inside ≡ Some (fired inside place p) =

@@ -1,11 +1,12 @@
--- What a firing has asked for so far.
-use Rattle.std.specs.Prelude.{ℕ, suc, List, [], ◌∷◌, ◌++◌}
+-- A firing: what it sees beside its node, and what it has asked for so far.
+use Rattle.std.specs.Prelude.{ℕ, suc, List, [], ◌∷◌, ◌++◌, Option, None, Some, slice_get, slice_set, unwrap_or}
 use Rattle.sim_base.specs.declared.key.Key.{Key}
 use Rattle.sim_base.specs.declared.key.NodeId.{NodeId}
 use Rattle.sim_base.specs.declared.time.Time.{Time}
 use Rattle.sim_base.specs.Packet.{Packet}
 use Rattle.pkt_face.specs.declared.line.Line.{Line}
 use Rattle.pkt_face.specs.declared.line.Sign.{Sign}
+use Rattle.csma_dev.specs.declared.bus.Bus.{Bus}
 use Rattle.node_step.specs.declared.loads.Event.{Event}
 use Rattle.node_step.specs.declared.loads.Load.{Load}
 
@@ -21,13 +22,32 @@ pub record Text : Type 0 where
   pub sign : Sign
   pub packet : Packet
 
--- the key of the event that fires, how many events its node had scheduled before, and what the firing has asked for
--- so far, in order
+-- the key of the event that fires, how many events its node had scheduled before, the buses of the LANs by number, and
+-- what the firing has asked for so far, in order
 pub record PlainFiring : Type 0 where
   pub key : Key
   pub before : ℕ
+  pub lans : List Bus
   pub requests : List Request
   pub texts : List Text
+
+-- a bus that no frame has used
+abbrev pub free : Bus
+free = record { busy_until = record { 0 = 0 } }
+
+-- the bus of a LAN
+abbrev pub bus_at : List Bus → ℕ → Bus
+bus_at lans lan = unwrap_or (slice_get lans lan) free
+
+-- the bus that an interface uses: that of its LAN; one on a link uses none
+abbrev pub bus_of : Option ℕ → List Bus → Bus
+bus_of None lans = free
+bus_of (Some lan) lans = bus_at lans lan
+
+-- the buses, when an interface has used one
+abbrev pub with_bus : Option ℕ → Bus → List Bus → List Bus
+with_bus None bus lans = lans
+with_bus (Some lan) bus lans = slice_set lans lan bus
 
 abbrev pub schedule : Time → NodeId → Load Packet → PlainFiring → PlainFiring
 schedule at to load f = record f { requests = f.requests ++ record { at = at; to = to; load = load } ∷ [] }

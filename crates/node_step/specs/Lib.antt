@@ -1,12 +1,12 @@
 pub mod Loads
 pub mod Firing
-pub mod Iface
-pub mod Link
 pub mod LocalApp
 pub mod Node
 pub mod Down
 pub mod Sending
+pub mod Asking
 pub mod Apps
+pub mod Hearing
 pub mod Up
 pub mod React
 pub mod Part

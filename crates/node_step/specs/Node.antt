@@ -1,35 +1,47 @@
 -- A node, and a firing of one of its events that is under way.
 use Rattle.std.specs.Prelude.{ℕ, List, Option, None, Some, slice_get, slice_set}
 use Rattle.sim_base.specs.declared.numbers.Numbers.{Numbers}
+use Rattle.sim_base.specs.declared.time.Time.{Time}
+use Rattle.sim_base.specs.Draws.{PlainRandom}
 use Rattle.layer_words.specs.Counting.{count_up}
 use Rattle.ipv4_core.specs.Ip.{PlainIp}
 use Rattle.udp_icmp.specs.Ports.{PlainPorts}
+use Rattle.tcp_flow.specs.Conns.{PlainConns}
+use Rattle.iface_step.specs.Iface.{PlainIface}
 use Rattle.node_step.specs.Firing.{PlainFiring}
-use Rattle.node_step.specs.Iface.{PlainIface}
 use Rattle.node_step.specs.LocalApp.{PlainLocalApp}
 
--- Its interfaces; its routes and addresses; which application gets what comes; its applications; what it has numbered; how many
--- packets it has dropped; how many events it had scheduled before the run, and how many it has scheduled in all
+-- Its interfaces; its routes and addresses; which application gets what comes; its connections; its applications; its generator; what it has
+-- numbered; how many packets it has dropped; how many events it had scheduled before the run, and how many it has scheduled in all
 pub record PlainNode : Type 0 where
   pub ifaces : List PlainIface
   pub ip : PlainIp
   pub ports : PlainPorts
+  pub conns : PlainConns
   pub apps : List PlainLocalApp
+  pub random : PlainRandom
   pub numbers : Numbers
   pub drops : ℕ
   pub first : ℕ
   pub scheduled : ℕ
 
--- a node, and what the firing has asked for so far
+-- a node and the firing of one of its events, under way
 pub record Progress : Type 0 where
   pub node : PlainNode
   pub firing : PlainFiring
 
-abbrev pub with_iface : ℕ → PlainIface → Progress → Progress
-with_iface iface face p = record p { node = record p.node { ifaces = slice_set p.node.ifaces iface face } }
+abbrev pub progress : PlainNode → PlainFiring → Progress
+progress node firing = record { node = node; firing = firing }
+
+-- when it fires
+abbrev pub now : Progress → Time
+now p = p.firing.key.time
 
 abbrev pub with_app : ℕ → PlainLocalApp → Progress → Progress
 with_app app a p = record p { node = record p.node { apps = slice_set p.node.apps app a } }
+
+abbrev pub with_conns : PlainConns → Progress → Progress
+with_conns conns p = record p { node = record p.node { conns = conns } }
 
 abbrev pub with_numbers : Numbers → Progress → Progress
 with_numbers numbers p = record p { node = record p.node { numbers = numbers } }
@@ -48,10 +60,6 @@ dropped p = record p { node = with_drop p.node }
 abbrev pub changed : {Part : Type 0} → Option Part → (Part → Progress) → Progress → Progress
 changed None act p = p
 changed (Some part) act p = act part
-
--- what is done with an interface of the node; nothing, where there is none of this number
-abbrev pub at_iface : ℕ → (PlainIface → Progress) → Progress → Progress
-at_iface iface act p = changed (slice_get p.node.ifaces iface) act p
 
 -- what is done with an application of the node; nothing, where there is none of this number
 abbrev pub at_app : ℕ → (PlainLocalApp → Progress) → Progress → Progress

@@ -4,6 +4,7 @@ use Rattle.std.specs.List.{flat_map}
 use Rattle.sim_base.specs.Packet.{Packet}
 use Rattle.pkt_face.specs.declared.line.Line.{Line}
 use Rattle.layer_words.specs.Counting.{count_up}
+use Rattle.csma_dev.specs.declared.bus.Bus.{Bus}
 use Rattle.node_step.specs.declared.loads.Event.{Event}
 use Rattle.node_step.specs.declared.local_app.AppCount.{AppCount}
 use Rattle.node_step.specs.Firing.{scheduled, numbered}
@@ -11,10 +12,12 @@ use Rattle.node_step.specs.LocalApp.{app_count}
 use Rattle.node_step.specs.Node.{PlainNode, Progress}
 use Rattle.node_step.specs.React.{CanHandle, react}
 
--- some of the nodes, where each of all nodes stands among them, and how many events a node may schedule
+-- some of the nodes, where each of all nodes stands among them, the buses of all LANs by number, of which it uses those on
+-- which its nodes sit, and how many events a node may schedule
 pub record PlainPart : Type 0 where
   pub places : List ℕ
   pub nodes : List PlainNode
+  pub lans : List Bus
   pub limit : ℕ
 
 -- how many packets nodes have dropped
@@ -33,7 +36,7 @@ pub record Fired : Type 0 where
 
 abbrev pub fired : PlainPart → ℕ → Progress → Fired
 fired part place p = record {
-  part = record part { nodes = slice_set part.nodes place p.node };
+  part = record part { nodes = slice_set part.nodes place p.node; lans = p.firing.lans };
   sends = scheduled p.firing.key p.firing.before p.firing.requests;
   lines = numbered p.firing.key 0 p.firing.texts;
 }
@@ -45,7 +48,7 @@ allowed part place (Some p) = Some (fired part place p)
 -- the node at a place reacts
 abbrev pub fire_at : Event Packet → PlainPart → ℕ → Option PlainNode → Option Fired
 fire_at e part place None = None
-fire_at e part place (Some node) = allowed part place (react part.limit e node)
+fire_at e part place (Some node) = allowed part place (react part.limit e node part.lans)
 
 -- the place of a node
 abbrev pub place_of : ℕ → PlainPart → ℕ
@@ -55,7 +58,7 @@ place_of node part = slice_index part.places node
 abbrev pub has : ℕ → PlainPart → Bool
 has node part = nat_lt node (length part.places) && nat_lt (place_of node part) (length part.nodes)
 
--- an event fires: its node reacts, and no other changes
+-- an event fires: its node reacts with the buses of the LANs, and no other node changes
 abbrev pub fire : Event Packet → PlainPart → Option Fired
 fire e part = fire_at e part (place_of e.key.node.0 part) (slice_get part.nodes (place_of e.key.node.0 part))
 

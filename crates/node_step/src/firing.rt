@@ -1,25 +1,25 @@
-//! What a firing has asked for so far.
+//! A firing: what it sees beside its node, and what it has asked for so far.
 
-ghost use Rattle.std.specs.Prelude.{◌≡◌, ◌+◌, ◌≤◌, ◌<◌, ◌^◌, [], OnOk, OnErr, fold, map, length};
+ghost use Rattle.std.specs.Prelude.{◌≡◌, ◌+◌, ◌≤◌, ◌<◌, ◌^◌, [], OnOk, OnErr, length};
 ghost use Rattle.layer_words.specs.Acts.{Appends};
-ghost use Rattle.p2p_dev.specs.Seen.{plain_act};
 ghost use Rattle.pkt_face.specs.Seen.{plain_line};
 ghost use Rattle.node_step.specs.Loads.{plain_load, plain_event};
 
-use crate::iface::Ends;
 use crate::loads::{Effects, Event, Load};
-use p2p_dev::Act;
+use csma_dev::Bus;
 use pkt_face::{Line, Pkt, Sign};
 use sim_base::{Key, NoMemory, NodeId, Time};
 use std::alloc::Global;
 use std::marker::Model;
 
-/// What a firing has asked for: events, which the sender's count numbers, and lines, numbered from 0. It is kept from
-/// firing to firing, so that its room is used again.
+/// A firing: the key of its event, at a time of a run; the buses of all LANs by number, which stay from firing to firing; and
+/// what is asked for: events, which the sender's count numbers, and lines, numbered from 0. It is kept from firing to firing,
+/// so that its room is used again.
 #[derive(Drop)]
 pub struct Firing<P: Pkt> {
     key: Key,
     before: u64,
+    lans: Vec<Bus>,
     sends: Vec<Event<P>>,
     lines: Vec<Line<P>>,
 }
@@ -32,37 +32,73 @@ impl<P: Pkt> Model for Firing<P> {
 
     ghost Value = { PlainFiring };
 
-    ghost view = { λ f. record { key = f.key; before = f.before; requests = map request_of (map (plain_event P.plain) f.sends.items); texts = map text_of (map (plain_line P.plain) f.lines.items) } };
+    ghost view = { λ f. record { key = f.key; before = f.before; lans = f.lans.items; requests = map request_of (map (plain_event P.plain) f.sends.items); texts = map text_of (map (plain_line P.plain) f.lines.items) } };
 
-    ghost invariant = { λ f. (f.before ≤ 10 ^ 9 + 10 ^ 6) × (map (plain_event P.plain) f.sends.items ≡ scheduled f.key f.before (map request_of (map (plain_event P.plain) f.sends.items))) × (map (plain_line P.plain) f.lines.items ≡ numbered f.key 0 (map text_of (map (plain_line P.plain) f.lines.items))) };
+    ghost invariant = { λ f. (f.key.time.0 ≤ 10 ^ 12) × (f.before ≤ 10 ^ 9 + 10 ^ 6) × (map (plain_event P.plain) f.sends.items ≡ scheduled f.key f.before (map request_of (map (plain_event P.plain) f.sends.items))) × (map (plain_line P.plain) f.lines.items ≡ numbered f.key 0 (map text_of (map (plain_line P.plain) f.lines.items))) };
 }
 
 impl<P: Pkt> Firing<P> {
-    ghost use Rattle.node_step.specs.Firing.{PlainFiring, schedule, write, scheduled, numbered};
-    ghost use Rattle.node_step.specs.Link.{carry_down};
+    ghost use Rattle.node_step.specs.Firing.{PlainFiring, bus_of, schedule, with_bus, write, scheduled, numbered};
 
-    /// The firing of an event whose node has scheduled so many events before.
-    pub fn new(alloc: Global, key: Key, before: u64) -> Firing<P>
-        requires { before ≤ 10 ^ 9 + 10 ^ 6 }
-        ensures { result ≡ record { key = key; before = before; requests = []; texts = [] } }
+    /// A firing that has not begun, with the buses of all LANs.
+    pub fn new(alloc: Global, lans: Vec<Bus>) -> Firing<P>
+        ensures { result.lans ≡ lans.items }
     {
+        let nothing = Key {
+            time: Time(0),
+            node: NodeId(0),
+            sent: Time(0),
+            by: NodeId(0),
+            count: 0,
+        };
         Firing {
-            key,
-            before,
+            key: nothing,
+            before: 0,
+            lans,
             sends: Vec::new(alloc),
             lines: Vec::new(alloc),
         }
     }
 
-    /// Begins the firing of another event.
+    /// Begins the firing of an event whose node has scheduled so many events before.
     pub fn begin(&mut self, key: Key, before: u64)
-        requires { before ≤ 10 ^ 9 + 10 ^ 6 }
-        ensures { self.new ≡ record { key = key; before = before; requests = []; texts = [] } }
+        requires time { key.time.0 ≤ 10 ^ 12 }
+        requires before { before ≤ 10 ^ 9 + 10 ^ 6 }
+        ensures { self.new ≡ record { key = key; before = before; lans = self.old.lans; requests = []; texts = [] } }
     {
         self.key = key;
         self.before = before;
         self.sends.clear();
         self.lines.clear();
+    }
+
+    /// When it fires.
+    pub fn now(&self) -> Time
+        ensures value { result ≡ self.now.key.time }
+        ensures small { result.0 ≤ 10 ^ 12 }
+    {
+        self.key.time
+    }
+
+    /// The bus that an interface uses, which is on this LAN.
+    pub fn bus(&self, lan: Option<u32>) -> Bus
+        ensures { result ≡ bus_of lan self.now.lans }
+    {
+        match lan {
+            Some(lan) if (lan as usize) < self.lans.len() => self.lans[lan as usize],
+            _ => Bus::FREE,
+        }
+    }
+
+    /// The interface has used it.
+    pub fn set_bus(&mut self, lan: Option<u32>, bus: Bus)
+        ensures { self.new ≡ record self.old { lans = with_bus lan bus self.old.lans } }
+    {
+        if let Some(lan) = lan {
+            if (lan as usize) < self.lans.len() {
+                self.lans[lan as usize] = bus;
+            }
+        }
     }
 
     pub fn schedule(&mut self, at: Time, to: NodeId, load: Load<P>) -> Result<(), NoMemory>
@@ -108,6 +144,7 @@ impl<P: Pkt> Firing<P> {
     pub fn finish(&mut self, out: &mut Effects<P>) -> Result<(), NoMemory>
         ensures sends { OnOk result (Appends (plain_event P.plain) out.old.sends.items out.new.sends.items (scheduled self.old.key self.old.before self.old.requests)) }
         ensures lines { OnOk result (Appends (plain_line P.plain) out.old.lines.items out.new.lines.items (numbered self.old.key 0 self.old.texts)) }
+        ensures lans { self.new.lans ≡ self.old.lans }
         ensures err { OnErr result ((out.new.sends.items ≡ out.old.sends.items) × (out.new.lines.items ≡ out.old.lines.items)) }
     {
         let before = out.sends.len();
@@ -119,35 +156,5 @@ impl<P: Pkt> Firing<P> {
                 Err(NoMemory)
             }
         }
-    }
-
-    /// Carries out an act of a device that has started a frame.
-    #[tactic(auto, unfolding(crate::specs::Link::carry_down))]
-    fn carry_down(&mut self, ends: Ends, act: Act<P>) -> Result<(), NoMemory>
-        ensures { OnOk result (self.new ≡ carry_down ends self.old (plain_act P.plain act)) }
-    {
-        match act {
-            Act::SentAt { at } => self.schedule(at, ends.node, Load::Sent { iface: ends.iface }),
-            Act::ArriveAt { at, frame } => {
-                let load = Load::Arrive {
-                    iface: ends.peer_iface,
-                    packet: frame,
-                };
-                self.schedule(at, ends.peer, load)
-            }
-            Act::Save { frame } => self.write(ends.iface, Sign::Save, frame),
-            Act::Up { .. } => Ok(()),
-        }
-    }
-
-    /// Carries out such acts in their order.
-    pub fn carry_all_down(&mut self, ends: Ends, acts: &mut Vec<Act<P>>) -> Result<(), NoMemory>
-        ensures { OnOk result (self.new ≡ fold (carry_down ends) self.old (map (plain_act P.plain) acts.old.items)) }
-    {
-        acts.as_mut_slice().reverse();
-        while let Some(act) = acts.pop() {
-            self.carry_down(ends, act)?;
-        }
-        Ok(())
     }
 }

@@ -3,7 +3,7 @@
 ghost use Rattle.std.specs.Prelude.{◌≡◌, OnOk, All};
 ghost use Rattle.layer_words.specs.Acts.{Appends};
 ghost use Rattle.traffic_apps.specs.Seen.{plain_in, plain_act};
-ghost use Rattle.traffic_apps.specs.Step.{CanTake, FitsDatagram};
+ghost use Rattle.traffic_apps.specs.Step.{BringsDatagram, CanTake, FitsDatagram};
 
 use pkt_face::Pkt;
 use sim_base::{NoMemory, Numbers};
@@ -78,7 +78,7 @@ impl LocalApp {
         ensures state { OnOk result (self.new ≡ (app_step self.old numbers.old (plain_in P.plain input)).state) }
         ensures numbers { OnOk result (numbers.new ≡ (app_step self.old numbers.old (plain_in P.plain input)).numbers) }
         ensures acts { OnOk result (Appends (plain_act P.plain) out.old.items out.new.items (app_step self.old numbers.old (plain_in P.plain input)).acts) }
-        ensures fits { All FitsDatagram (app_step self.old numbers.old (plain_in P.plain input)).acts }
+        ensures fits { BringsDatagram (plain_in P.plain input) → All FitsDatagram (app_step self.old numbers.old (plain_in P.plain input)).acts }
     {
         self.app.is_within_limits();
         self.app.step(input, maker, numbers, out)

@@ -1,32 +1,37 @@
 //! A node of the simulation.
 
 mod apps;
+mod asking;
 mod down;
+mod hearing;
 mod react;
 mod sending;
-mod tools;
 mod up;
+mod work;
 
 ghost use Rattle.std.specs.Prelude.{◌≡◌, ◌≤◌, ◌^◌, ◌++◌, OnOk, map};
 ghost use Rattle.node_step.specs.LocalApp.{app_count};
 ghost use Rattle.node_step.specs.Node.{with_drop};
 
-use crate::iface::Iface;
 use crate::local_app::{AppCount, LocalApp};
+use iface_step::Iface;
 use ipv4_core::Ip;
 use pkt_face::Pkt;
-use sim_base::{NoMemory, NodeId, Numbers};
+use sim_base::{NoMemory, NodeId, Numbers, Random};
 use std::marker::Model;
-pub use tools::Tools;
+use tcp_flow::Conns;
 use udp_icmp::Ports;
+pub use work::Work;
 
-/// A node of the simulation: a part for each layer, what it has numbered, and what is counted.
+/// A node of the simulation: a part for each layer, its generator, what it has numbered, and what is counted.
 #[derive(Drop)]
 pub struct Node<P: Pkt> {
     ifaces: Vec<Iface<P>>,
     ip: Ip,
     ports: Ports,
+    conns: Conns,
     apps: Vec<LocalApp>,
+    random: Random,
     numbers: Numbers,
     drops: u64,
     first: u64,
@@ -35,11 +40,15 @@ pub struct Node<P: Pkt> {
 
 impl<P: Pkt> Model for Node<P> {
     ghost use Rattle.std.specs.Prelude.{◌+◌, ◌≤◌, ◌^◌};
+    ghost use Rattle.std.specs.Coded.{codes};
+    ghost use Rattle.tcp_flow.specs.contracts.conn.Conn as conn;
     ghost use Rattle.node_step.specs.Node.{PlainNode};
 
     ghost Value = { PlainNode };
 
-    ghost view = { λ n. record { ifaces = n.ifaces.items; ip = n.ip; ports = n.ports; apps = n.apps.items; numbers = n.numbers; drops = n.drops; first = n.first; scheduled = n.scheduled } };
+    ghost coded = { Prim.hlevel (codes, conn.the_row.coded) };
+
+    ghost view = { λ n. record { ifaces = n.ifaces.items; ip = n.ip; ports = n.ports; conns = n.conns; apps = n.apps.items; random = n.random; numbers = n.numbers; drops = n.drops; first = n.first; scheduled = n.scheduled } };
 
     ghost invariant = { λ n. (n.first ≤ 10 ^ 6) × (n.scheduled ≤ n.first + 10 ^ 9) };
 }
@@ -50,13 +59,15 @@ impl<P: Pkt> Node<P> {
     pub fn make(
         number: NodeId,
         first: u64,
+        random: Random,
         ifaces: Vec<Iface<P>>,
         ip: Ip,
         ports: Ports,
+        conns: Conns,
         apps: Vec<LocalApp>,
     ) -> Node<P>
         requires { first ≤ 10 ^ 6 }
-        ensures { result ≡ record { ifaces = ifaces.items; ip = ip; ports = ports; apps = apps.items; numbers = record { node = number; packets = 0; ids = 0; stamps = 0 }; drops = 0; first = first; scheduled = first } }
+        ensures { result ≡ record { ifaces = ifaces.items; ip = ip; ports = ports; conns = conns; apps = apps.items; random = random; numbers = record { node = number; packets = 0; ids = 0; stamps = 0 }; drops = 0; first = first; scheduled = first } }
     {
         let numbers = Numbers {
             node: number,
@@ -68,7 +79,9 @@ impl<P: Pkt> Node<P> {
             ifaces,
             ip,
             ports,
+            conns,
             apps,
+            random,
             numbers,
             drops: 0,
             first,

@@ -5,34 +5,37 @@ ghost use Rattle.layer_words.specs.Acts.{Appends};
 ghost use Rattle.pkt_face.specs.Seen.{plain_line};
 ghost use Rattle.node_step.specs.Loads.{plain_event};
 
-use crate::firing::Firing;
 use crate::loads::{Effects, Event};
 use crate::local_app::AppCount;
-use crate::node::{Node, Tools};
+use crate::node::{Node, Work};
 use crate::stop::FireStop;
+use csma_dev::Bus;
 use pkt_face::Pkt;
-use sim_base::{Key, NoMemory, NodeId, Time};
+use sim_base::{NoMemory, NodeId, Time};
 use std::alloc::Global;
 use std::marker::Model;
 
-/// Some of the nodes. `places` says of each node where it stands in `nodes`.
+/// Some of the nodes. `places` says of each node where it stands in `nodes`; the firing has the buses of all LANs, of which
+/// the part uses those on which its nodes sit.
 #[derive(Drop)]
 pub struct Part<P: Pkt> {
     places: Vec<u32>,
     nodes: Vec<Node<P>>,
     limit: u64,
-    maker: P::Maker,
-    tools: Tools<P>,
-    firing: Firing<P>,
+    work: Work<P>,
 }
 
 impl<P: Pkt> Model for Part<P> {
     ghost use Rattle.std.specs.Prelude.{◌≤◌, ◌^◌};
+    ghost use Rattle.std.specs.Coded.{codes};
+    ghost use Rattle.tcp_flow.specs.contracts.conn.Conn as conn;
     ghost use Rattle.node_step.specs.Part.{PlainPart};
 
     ghost Value = { PlainPart };
 
-    ghost view = { λ p. record { places = p.places.items; nodes = p.nodes.items; limit = p.limit } };
+    ghost coded = { Prim.hlevel (codes, conn.the_row.coded) };
+
+    ghost view = { λ p. record { places = p.places.items; nodes = p.nodes.items; lans = p.work.firing.lans; limit = p.limit } };
 
     ghost invariant = { λ p. p.limit ≤ 10 ^ 9 };
 }
@@ -44,24 +47,22 @@ impl<P: Pkt> Part<P> {
     ghost use Rattle.node_step.specs.Part.{CanFire, has, counts, drops, fire, place_of};
     ghost use Rattle.node_step.specs.React.{Refuses};
 
-    pub fn make(alloc: Global, places: Vec<u32>, nodes: Vec<Node<P>>, limit: u64) -> Part<P>
+    /// A part of these nodes, with the buses of all LANs by number.
+    pub fn make(
+        alloc: Global,
+        places: Vec<u32>,
+        nodes: Vec<Node<P>>,
+        lans: Vec<Bus>,
+        limit: u64,
+    ) -> Part<P>
         requires { limit ≤ 10 ^ 9 }
-        ensures { result ≡ record { places = places.items; nodes = nodes.items; limit = limit } }
+        ensures { result ≡ record { places = places.items; nodes = nodes.items; lans = lans.items; limit = limit } }
     {
-        let none = Key {
-            time: Time(0),
-            node: NodeId(0),
-            sent: Time(0),
-            by: NodeId(0),
-            count: 0,
-        };
         Part {
             places,
             nodes,
             limit,
-            maker: P::maker(alloc),
-            tools: Tools::make(alloc),
-            firing: Firing::new(alloc, none, 0),
+            work: Work::make(alloc, lans),
         }
     }
 
@@ -112,14 +113,8 @@ impl<P: Pkt> Part<P> {
     {
         let place = self.places[ev.key.node.0 as usize];
         let node = &mut self.nodes[place as usize];
-        node.react(
-            &mut self.tools,
-            &mut self.maker,
-            self.limit,
-            ev,
-            &mut self.firing,
-        )?;
-        self.firing.finish(out)?;
+        node.react(self.limit, ev, &mut self.work)?;
+        self.work.firing.finish(out)?;
         Ok(())
     }
 

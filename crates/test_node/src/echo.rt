@@ -1,14 +1,14 @@
 //! The case of ns-3's first example: a client and an echo server at the two ends of a link.
 
 use crate::run::run;
-use crate::wiring::{FIRST_NET, first_tick, iface, way};
+use crate::wiring::{FIRST_NET, iface, tick, way};
 use ipv4_core::{Ip, Routes, Table};
 use node_step::{LocalApp, Node, Part};
-use p2p_dev::P2p;
 use pkt_face::PlainPkt;
-use sim_base::{NoMemory, NodeId, Rate, Time};
+use sim_base::{NoMemory, NodeId, Random, Rate, Time};
 use std::alloc::Global;
 use std::collections::{BTreeMap, BTreeSet};
+use tcp_flow::Conns;
 use traffic_apps::{App, AppKind, Schedule};
 use udp_icmp::Ports;
 
@@ -32,14 +32,25 @@ fn end(
     own.insert(addr)?;
     let mut udp = BTreeMap::new(alloc);
     udp.insert(app.port(), 0)?;
-    let device = P2p::make(Rate(5_000_000), Time(2_000_000), true);
     let first = if node == CLIENT { 1 } else { 0 };
     Ok(Node::make(
         NodeId(node),
         first,
-        vec![in alloc; iface(alloc, node, 0, other, device)]?,
+        Random::make(1, NodeId(node)),
+        vec![in alloc;
+            iface(
+                alloc,
+                node,
+                0,
+                other,
+                Rate(5_000_000),
+                Time(2_000_000),
+                true
+            ),
+        ]?,
         Ip::make(Routes::make(vec![in alloc; Table::make(24, near)]?), own),
         Ports::make(udp, BTreeMap::new(alloc)),
+        Conns::make(alloc),
         vec![in alloc; app]?,
     ))
 }
@@ -63,6 +74,10 @@ pub fn over_one_link(alloc: Global) -> Result<String, NoMemory> {
         end(alloc, CLIENT, SERVER, FIRST_NET + 1, client)?,
         end(alloc, SERVER, CLIENT, FIRST_NET + 2, server)?,
     ]?;
-    let part = Part::make(alloc, vec![in alloc; 0, 1]?, nodes, 1000);
-    run(alloc, part, first_tick(Time(2_000_000_000)))
+    let part = Part::make(alloc, vec![in alloc; 0, 1]?, nodes, Vec::new(alloc), 1000);
+    run(
+        alloc,
+        part,
+        vec![in alloc; tick(CLIENT, Time(2_000_000_000))]?,
+    )
 }

@@ -2,6 +2,7 @@
 #![tactic(auto)]
 
 mod echo;
+mod lan;
 mod report;
 mod run;
 mod wiring;
@@ -14,5 +15,9 @@ fn main(rt: HostRuntime) -> Result<()> {
     print!(rt; "{echo}")?;
     let report = report::of_no_route(alloc).ok().context("no memory")?;
     print!(rt; "{report}")?;
+    let shared = lan::shared(alloc).ok().context("no memory")?;
+    print!(rt; "{shared}")?;
+    let nobody = lan::of_nobody(alloc).ok().context("no memory")?;
+    print!(rt; "{nobody}")?;
     Ok(())
 }

@@ -1,24 +1,24 @@
 //! A sender whose route leads through a router that has none.
 
 use crate::run::run;
-use crate::wiring::{FIRST_NET, SECOND_NET, first_tick, iface, way};
+use crate::wiring::{FIRST_NET, SECOND_NET, iface, tick, way};
 use ipv4_core::{Ip, Routes, Table};
 use node_step::{LocalApp, Node, Part};
-use p2p_dev::P2p;
 use pkt_face::PlainPkt;
-use sim_base::{NoMemory, NodeId, Rate, Time};
+use sim_base::{NoMemory, NodeId, Random, Rate, Time};
 use std::alloc::Global;
 use std::collections::{BTreeMap, BTreeSet};
+use tcp_flow::Conns;
 use traffic_apps::{App, AppKind, Schedule};
 use udp_icmp::Ports;
 
 /// A network that the router doesn't know, 10.9.0.0 with prefix 16.
 const FAR_NET: u32 = 0x0a09_0000;
 
-/// One end of a link of 1,000,000 bit/s with a delay of 1 ms.
-fn device(traced: bool) -> P2p {
-    P2p::make(Rate(1_000_000), Time(1_000_000), traced)
-}
+/// The links have 1,000,000 bit/s and a delay of 1 ms.
+const RATE: Rate = Rate(1_000_000);
+
+const DELAY: Time = Time(1_000_000);
 
 /// The sender: its route to the far network leads through its neighbour.
 fn sender(alloc: Global) -> Result<Node<PlainPkt>, NoMemory> {
@@ -45,9 +45,11 @@ fn sender(alloc: Global) -> Result<Node<PlainPkt>, NoMemory> {
     Ok(Node::make(
         NodeId(0),
         1,
-        vec![in alloc; iface(alloc, 0, 0, 1, device(true))]?,
+        Random::make(1, NodeId(0)),
+        vec![in alloc; iface(alloc, 0, 0, 1, RATE, DELAY, true)]?,
         Ip::make(Routes::make(tables), own),
         Ports::make(udp, BTreeMap::new(alloc)),
+        Conns::make(alloc),
         vec![in alloc; LocalApp::make(App::make(0, kind), 49153)]?,
     ))
 }
@@ -63,12 +65,14 @@ fn router(alloc: Global) -> Result<Node<PlainPkt>, NoMemory> {
     Ok(Node::make(
         NodeId(1),
         0,
+        Random::make(1, NodeId(1)),
         vec![in alloc;
-            iface(alloc, 1, 0, 0, device(false)),
-            iface(alloc, 1, 1, 2, device(false)),
+            iface(alloc, 1, 0, 0, RATE, DELAY, false),
+            iface(alloc, 1, 1, 2, RATE, DELAY, false),
         ]?,
         Ip::make(Routes::make(vec![in alloc; Table::make(24, near)]?), own),
         Ports::make(BTreeMap::new(alloc), BTreeMap::new(alloc)),
+        Conns::make(alloc),
         Vec::new(alloc),
     ))
 }
@@ -76,6 +80,6 @@ fn router(alloc: Global) -> Result<Node<PlainPkt>, NoMemory> {
 /// One datagram of 100 bytes to the far network, at 0 s; the router reports that it has no route.
 pub fn of_no_route(alloc: Global) -> Result<String, NoMemory> {
     let nodes = vec![in alloc; sender(alloc)?, router(alloc)?]?;
-    let part = Part::make(alloc, vec![in alloc; 0, 1]?, nodes, 1000);
-    run(alloc, part, first_tick(Time(0)))
+    let part = Part::make(alloc, vec![in alloc; 0, 1]?, nodes, Vec::new(alloc), 1000);
+    run(alloc, part, vec![in alloc; tick(0, Time(0))]?)
 }

@@ -11,15 +11,15 @@ const MOST_EVENTS: u32 = 100;
 /// How many bytes of a saved frame are written.
 const SHOWN: usize = 58;
 
-/// Fires the least event, again and again, and says what fires and what is saved; then what is counted.
+/// Fires the least event, of these and of those that follow, again and again, and says what fires and what is saved; then what is counted.
 pub fn run(
     alloc: Global,
     part: Part<PlainPkt>,
-    first: Event<PlainPkt>,
+    first: Vec<Event<PlainPkt>>,
 ) -> Result<String, NoMemory> {
     let mut part = part;
     let mut text = String::new(alloc);
-    let mut pending = vec![in alloc; first]?;
+    let mut pending = first;
     for _ in 0..MOST_EVENTS {
         pending.as_mut_slice().sort_by(
             alloc,
@@ -80,6 +80,21 @@ fn event_text(alloc: Global, ev: &Event<PlainPkt>) -> Result<String, NoMemory> {
         }
         Load::Sent { iface } => {
             format!(in alloc; "{time} node {node}: a frame has left interface {iface}\n")?
+        }
+        Load::BusFree { iface } => {
+            format!(in alloc; "{time} node {node}: the bus of interface {iface} is free\n")?
+        }
+        Load::BackoffOver { iface } => {
+            format!(in alloc; "{time} node {node}: interface {iface} has waited\n")?
+        }
+        Load::DiscReady { iface } => {
+            format!(in alloc; "{time} node {node}: the disc of interface {iface} is asked again\n")?
+        }
+        Load::ArpTimer { iface, addr, .. } => {
+            format!(in alloc; "{time} node {node}: no answer from {addr} at interface {iface}\n")?
+        }
+        Load::TcpTimer { conn, .. } => {
+            format!(in alloc; "{time} node {node}: the timer of connection {conn} fires\n")?
         }
         Load::Tick { app } => format!(in alloc; "{time} node {node}: application {app} ticks\n")?,
     })

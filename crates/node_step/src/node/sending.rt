@@ -1,48 +1,33 @@
 //! What a node sends, on its way down through UDP or ICMP and IPv4.
 
-ghost use Rattle.std.specs.Prelude.{◌≡◌, ◌≤◌, ◌^◌, OnOk, All, fold, map};
-ghost use Rattle.sim_base.specs.Packet.{len};
-ghost use Rattle.ipv4_core.specs.Ip.{FitsDatagram as FitsBelow, most_data};
-ghost use Rattle.ipv4_core.specs.Seen.{plain_act as plain_ip_act};
+ghost use Rattle.std.specs.Prelude.{◌≡◌, OnOk, All, fold, map};
+ghost use Rattle.ipv4_core.specs.Ip.{CanTake as CanTakeBelow, FitsDatagram as FitsBelow};
+ghost use Rattle.ipv4_core.specs.Seen.{plain_act as plain_ip_act, plain_in as plain_ip_in};
 ghost use Rattle.udp_icmp.specs.Seen.{plain_act, plain_in};
 ghost use Rattle.udp_icmp.specs.Step.{CanTake, FitsDatagram};
+ghost use Rattle.node_step.specs.Node.{progress};
 ghost use Rattle.node_step.specs.Sending.{carry_to_ip, carry_sent, ip_sends, ports_send, report};
 
 use super::Node;
-use super::tools::{IpTools, LinkTools, SendTools};
-use crate::firing::Firing;
-use header_forms::Ipv4;
+use super::work::{Work, room};
 use pkt_face::Pkt;
-use sim_base::{NoMemory, Time};
+use sim_base::NoMemory;
 
 impl<P: Pkt> Node<P> {
     /// Tells the source of a packet what became of it, unless no route leads to the source.
     #[tactic(auto, unfolding(crate::specs::Sending::report))]
     pub(super) fn report(
         &mut self,
-        tools: &mut SendTools<P>,
-        maker: &mut P::Maker,
-        now: Time,
-        kind: u8,
-        code: u8,
-        head: Ipv4,
-        packet: P,
-        firing: &mut Firing<P>,
+        src: u32,
+        input: udp_icmp::In<P>,
+        work: &mut Work<P>,
     ) -> Result<(), NoMemory>
-        requires { now.0 ≤ 10 ^ 12 }
-        ensures { OnOk result (record { node = self.new; firing = firing.new } ≡ report now kind code head (P.plain packet) (record { node = self.old; firing = firing.old })) }
+        requires { CanTake (plain_in P.plain input) }
+        ensures { OnOk result (progress self.new work.new.firing ≡ report src (plain_in P.plain input) (progress self.old work.old.firing)) }
     {
-        match self.ip.route(head.src) {
+        match self.ip.route(src) {
             None => Ok(()),
-            Some(_) => {
-                let input = udp_icmp::In::Report {
-                    kind,
-                    code,
-                    head,
-                    packet,
-                };
-                self.ports_send(tools, maker, now, input, firing)
-            }
+            Some(_) => self.ports_send(input, work),
         }
     }
 
@@ -50,53 +35,40 @@ impl<P: Pkt> Node<P> {
     #[tactic(auto, unfolding(crate::specs::Sending::ports_send))]
     pub(super) fn ports_send(
         &mut self,
-        tools: &mut SendTools<P>,
-        maker: &mut P::Maker,
-        now: Time,
         input: udp_icmp::In<P>,
-        firing: &mut Firing<P>,
+        work: &mut Work<P>,
     ) -> Result<(), NoMemory>
-        requires time { now.0 ≤ 10 ^ 12 }
-        requires input { CanTake (plain_in P.plain input) }
-        ensures { OnOk result (record { node = self.new; firing = firing.new } ≡ ports_send now (plain_in P.plain input) (record { node = self.old; firing = firing.old })) }
+        requires { CanTake (plain_in P.plain input) }
+        ensures { OnOk result (progress self.new work.new.firing ≡ ports_send (plain_in P.plain input) (progress self.old work.old.firing)) }
     {
-        tools.acts.clear();
+        let mut acts = room(&mut work.ports_down);
         self.ports
-            .step(input, maker, &mut self.numbers, &mut tools.acts)?;
-        self.carry_all_to_ip(tools, maker, now, firing)
+            .step(input, &mut work.maker, &mut self.numbers, &mut acts)?;
+        self.carry_all_to_ip(&mut acts, work)?;
+        work.ports_down = acts;
+        Ok(())
     }
 
     /// Carries out the acts of UDP or ICMP that sends, in their order.
     fn carry_all_to_ip(
         &mut self,
-        tools: &mut SendTools<P>,
-        maker: &mut P::Maker,
-        now: Time,
-        firing: &mut Firing<P>,
+        acts: &mut Vec<udp_icmp::Act<P>>,
+        work: &mut Work<P>,
     ) -> Result<(), NoMemory>
-        requires time { now.0 ≤ 10 ^ 12 }
-        requires fit { All FitsDatagram (map (plain_act P.plain) tools.old.acts.items) }
-        ensures { OnOk result (record { node = self.new; firing = firing.new } ≡ fold (carry_to_ip now) (record { node = self.old; firing = firing.old }) (map (plain_act P.plain) tools.old.acts.items)) }
+        requires { All FitsDatagram (map (plain_act P.plain) acts.old.items) }
+        ensures { OnOk result (progress self.new work.new.firing ≡ fold carry_to_ip (progress self.old work.old.firing) (map (plain_act P.plain) acts.old.items)) }
     {
-        tools.acts.as_mut_slice().reverse();
-        while let Some(act) = tools.acts.pop() {
-            self.carry_to_ip(&mut tools.ip, maker, now, act, firing)?;
+        acts.as_mut_slice().reverse();
+        while let Some(act) = acts.pop() {
+            self.carry_to_ip(act, work)?;
         }
         Ok(())
     }
 
     #[tactic(auto, unfolding(crate::specs::Sending::carry_to_ip))]
-    fn carry_to_ip(
-        &mut self,
-        tools: &mut IpTools<P>,
-        maker: &mut P::Maker,
-        now: Time,
-        act: udp_icmp::Act<P>,
-        firing: &mut Firing<P>,
-    ) -> Result<(), NoMemory>
-        requires time { now.0 ≤ 10 ^ 12 }
-        requires fits { FitsDatagram (plain_act P.plain act) }
-        ensures { OnOk result (record { node = self.new; firing = firing.new } ≡ carry_to_ip now (record { node = self.old; firing = firing.old }) (plain_act P.plain act)) }
+    fn carry_to_ip(&mut self, act: udp_icmp::Act<P>, work: &mut Work<P>) -> Result<(), NoMemory>
+        requires { FitsDatagram (plain_act P.plain act) }
+        ensures { OnOk result (progress self.new work.new.firing ≡ carry_to_ip (progress self.old work.old.firing) (plain_act P.plain act)) }
     {
         match act {
             udp_icmp::Act::ToIp {
@@ -104,7 +76,15 @@ impl<P: Pkt> Node<P> {
                 dst,
                 proto,
                 packet,
-            } => self.ip_sends(tools, maker, now, src, dst, proto, packet, firing),
+            } => {
+                let input = ipv4_core::In::Send {
+                    src,
+                    dst,
+                    proto,
+                    packet,
+                };
+                self.ip_sends(input, work)
+            }
             udp_icmp::Act::Dropped => {
                 self.drop_packet();
                 Ok(())
@@ -113,70 +93,48 @@ impl<P: Pkt> Node<P> {
         }
     }
 
-    /// Lets IPv4 send a packet of a protocol.
+    /// Lets IPv4 send what is given to it.
     #[tactic(auto, unfolding(crate::specs::Sending::ip_sends))]
     pub(super) fn ip_sends(
         &mut self,
-        tools: &mut IpTools<P>,
-        maker: &mut P::Maker,
-        now: Time,
-        src: Option<u32>,
-        dst: u32,
-        proto: u8,
-        packet: P,
-        firing: &mut Firing<P>,
+        input: ipv4_core::In<P>,
+        work: &mut Work<P>,
     ) -> Result<(), NoMemory>
-        requires time { now.0 ≤ 10 ^ 12 }
-        requires fits { len (P.plain packet) ≤ most_data }
-        ensures { OnOk result (record { node = self.new; firing = firing.new } ≡ ip_sends now src dst proto (P.plain packet) (record { node = self.old; firing = firing.old })) }
+        requires { CanTakeBelow (plain_ip_in P.plain input) }
+        ensures { OnOk result (progress self.new work.new.firing ≡ ip_sends (plain_ip_in P.plain input) (progress self.old work.old.firing)) }
     {
-        tools.acts.clear();
-        let input = ipv4_core::In::Send {
-            src,
-            dst,
-            proto,
-            packet,
-        };
+        let mut acts = room(&mut work.ip_down);
         self.ip
-            .step(input, maker, &mut self.numbers, &mut tools.acts)?;
-        self.carry_all_sent(tools, maker, now, firing)
+            .step(input, &mut work.maker, &mut self.numbers, &mut acts)?;
+        self.carry_all_sent(&mut acts, work)?;
+        work.ip_down = acts;
+        Ok(())
     }
 
     /// Carries out the acts of IPv4 that sends, in their order.
     fn carry_all_sent(
         &mut self,
-        tools: &mut IpTools<P>,
-        maker: &mut P::Maker,
-        now: Time,
-        firing: &mut Firing<P>,
+        acts: &mut Vec<ipv4_core::Act<P>>,
+        work: &mut Work<P>,
     ) -> Result<(), NoMemory>
-        requires time { now.0 ≤ 10 ^ 12 }
-        requires fit { All FitsBelow (map (plain_ip_act P.plain) tools.old.acts.items) }
-        ensures { OnOk result (record { node = self.new; firing = firing.new } ≡ fold (carry_sent now) (record { node = self.old; firing = firing.old }) (map (plain_ip_act P.plain) tools.old.acts.items)) }
+        requires { All FitsBelow (map (plain_ip_act P.plain) acts.old.items) }
+        ensures { OnOk result (progress self.new work.new.firing ≡ fold carry_sent (progress self.old work.old.firing) (map (plain_ip_act P.plain) acts.old.items)) }
     {
-        tools.acts.as_mut_slice().reverse();
-        while let Some(act) = tools.acts.pop() {
-            self.carry_sent(&mut tools.link, maker, now, act, firing)?;
+        acts.as_mut_slice().reverse();
+        while let Some(act) = acts.pop() {
+            self.carry_sent(act, work)?;
         }
         Ok(())
     }
 
     #[tactic(auto, unfolding(crate::specs::Sending::carry_sent))]
-    fn carry_sent(
-        &mut self,
-        tools: &mut LinkTools<P>,
-        maker: &mut P::Maker,
-        now: Time,
-        act: ipv4_core::Act<P>,
-        firing: &mut Firing<P>,
-    ) -> Result<(), NoMemory>
-        requires time { now.0 ≤ 10 ^ 12 }
-        requires fits { FitsBelow (plain_ip_act P.plain act) }
-        ensures { OnOk result (record { node = self.new; firing = firing.new } ≡ carry_sent now (record { node = self.old; firing = firing.old }) (plain_ip_act P.plain act)) }
+    fn carry_sent(&mut self, act: ipv4_core::Act<P>, work: &mut Work<P>) -> Result<(), NoMemory>
+        requires { FitsBelow (plain_ip_act P.plain act) }
+        ensures { OnOk result (progress self.new work.new.firing ≡ carry_sent (progress self.old work.old.firing) (plain_ip_act P.plain act)) }
     {
         match act {
-            ipv4_core::Act::Out { iface, packet, .. } => {
-                self.send_packet(tools, maker, now, iface, packet, firing)
+            ipv4_core::Act::Out { iface, hop, packet } => {
+                self.send_packet(iface, hop, packet, work)
             }
             ipv4_core::Act::Dropped => {
                 self.drop_packet();

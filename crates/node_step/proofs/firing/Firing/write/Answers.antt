@@ -7,5 +7,6 @@ pub invariant_of-self-2 : goal.invariant_of-self-2
 invariant_of-self-2 g c = (
   c.self.invariant.0,
   c.self.invariant.1,
-  numbered-more (plain_line g.P.Pkt.plain) c.self.inside.key c.in-Ok.index c.self.inside.lines.items c.push.new.self.items _ c.in_ok-push.ensures.items c.self.invariant.2 (omega (arith, c.len.ensures, c.self.inside.lines.ok.0, c.in-Ok.ensures)) refl,
+  c.self.invariant.2,
+  numbered-more (plain_line g.P.Pkt.plain) c.self.inside.key c.in-Ok.index c.self.inside.lines.items c.push.new.self.items _ c.in_ok-push.ensures.items c.self.invariant.3 (omega (arith, c.len.ensures, c.self.inside.lines.ok.0, c.in-Ok.ensures)) refl,
 )

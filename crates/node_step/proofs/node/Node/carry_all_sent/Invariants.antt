@@ -1,14 +1,15 @@
 use Rattle.std.proofs.Common.{◌≡◌, fold, map, reverse, All}
 use Rattle.ipv4_core.specs.Seen.{plain_act}
 use Rattle.ipv4_core.specs.Ip.{FitsDatagram}
+use Rattle.node_step.specs.Node.{progress}
 use Rattle.node_step.specs.Sending.{carry_sent}
 use Rattle.node_step.proofs.node.Node.carry_all_sent.Given as goal
 
 -- what is left to carry out leads to where all acts lead
 abbrev pub invariant-loop-act : goal.invariant-loop-act
 invariant-loop-act g l = record {
-  leads : fold (carry_sent l.now) (record { node = l.self; firing = l.firing }) (map (plain_act g.P.Pkt.plain) (reverse l.tools.acts.items)) ≡ fold (carry_sent l.now) (record { node = l.fn.self; firing = l.fn.firing }) (map (plain_act g.P.Pkt.plain) l.fn.tools.acts.items);
-  fit : All FitsDatagram (map (plain_act g.P.Pkt.plain) l.tools.acts.items);
+  leads : fold carry_sent (progress l.self l.work.firing) (map (plain_act g.P.Pkt.plain) (reverse l.acts.items)) ≡ fold carry_sent (progress l.fn.self l.fn.work.firing) (map (plain_act g.P.Pkt.plain) l.fn.acts.items);
+  fit : All FitsDatagram (map (plain_act g.P.Pkt.plain) l.acts.items);
 }
 
 abbrev pub decreases-loop-act : goal.decreases-loop-act

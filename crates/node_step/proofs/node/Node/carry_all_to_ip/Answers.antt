@@ -9,16 +9,16 @@ use Rattle.node_step.proofs.node.Node.carry_all_to_ip.Goals as goal
 pub loop-act-init : goal.loop-act-init
 loop-act-init g c =
     let turned = take_at c.reverse.new.self _ _ (omega arith) ∙ c.reverse.ensures.after ∙ ap reverse c.as_mut_slice.ensures.value in record {
-      leads = leads-reverse (carry_to_ip c.args.now) (plain_act g.P.Pkt.plain) _ c.args.tools.now.acts.items _ turned;
-      fit = fit-reverse FitsDatagram (plain_act g.P.Pkt.plain) c.args.tools.now.acts.items _ turned c.requires.fit;
+      leads = leads-reverse carry_to_ip (plain_act g.P.Pkt.plain) _ c.args.acts.now.items _ turned;
+      fit = fit-reverse FitsDatagram (plain_act g.P.Pkt.plain) c.args.acts.now.items _ turned c.requires;
     }
 
-pub carry_to_ip-requires-clause-fits : goal.carry_to_ip-requires-clause-fits
-carry_to_ip-requires-clause-fits g c κs within =
+pub carry_to_ip-requires-after_bounds : goal.carry_to_ip-requires-after_bounds
+carry_to_ip-requires-after_bounds g c κs within =
     (fit-pop FitsDatagram (plain_act g.P.Pkt.plain) _ c.pop.new.self.items c.in-Some.act c.in-Some.ensures.items c.loop-act.invariant.fit).1
 
 pub loop-act-preserved : goal.loop-act-preserved
 loop-act-preserved g c = record {
-  leads = leads-pop (carry_to_ip c.args.now) (plain_act g.P.Pkt.plain) _ _ _ _ c.pop.new.self.items c.in-Some.act c.in-Some.ensures.items c.in_ok-carry_to_ip.ensures c.loop-act.invariant.leads;
+  leads = leads-pop carry_to_ip (plain_act g.P.Pkt.plain) _ _ _ _ c.pop.new.self.items c.in-Some.act c.in-Some.ensures.items c.in_ok-carry_to_ip.ensures c.loop-act.invariant.leads;
   fit = (fit-pop FitsDatagram (plain_act g.P.Pkt.plain) _ c.pop.new.self.items c.in-Some.act c.in-Some.ensures.items c.loop-act.invariant.fit).0;
 }

@@ -1,0 +1,24 @@
+use Rattle.std.proofs.Common.{arith, ap, ◌∙◌, reverse}
+use Rattle.std.proofs.lemmas.List.{take_at}
+use Rattle.tcp_flow.specs.Seen.{plain_act}
+use Rattle.tcp_flow.specs.Small.{FitsDatagram}
+use Rattle.node_step.specs.Asking.{carry_asked}
+use Rattle.node_step.proofs.Fits.{fit-reverse, fit-pop, leads-reverse, leads-pop}
+use Rattle.node_step.proofs.node.Node.carry_all_asked.Goals as goal
+
+pub loop-act-init : goal.loop-act-init
+loop-act-init g c =
+    let turned = take_at c.reverse.new.self _ _ (omega arith) ∙ c.reverse.ensures.after ∙ ap reverse c.as_mut_slice.ensures.value in record {
+      leads = leads-reverse carry_asked (plain_act g.P.Pkt.plain) _ c.args.acts.now.items _ turned;
+      fit = fit-reverse FitsDatagram (plain_act g.P.Pkt.plain) c.args.acts.now.items _ turned c.requires;
+    }
+
+pub carry_asked-requires-after_bounds : goal.carry_asked-requires-after_bounds
+carry_asked-requires-after_bounds g c κs within =
+    (fit-pop FitsDatagram (plain_act g.P.Pkt.plain) _ c.pop.new.self.items c.in-Some.act c.in-Some.ensures.items c.loop-act.invariant.fit).1
+
+pub loop-act-preserved : goal.loop-act-preserved
+loop-act-preserved g c = record {
+  leads = leads-pop carry_asked (plain_act g.P.Pkt.plain) _ _ _ _ c.pop.new.self.items c.in-Some.act c.in-Some.ensures.items c.in_ok-carry_asked.ensures c.loop-act.invariant.leads;
+  fit = (fit-pop FitsDatagram (plain_act g.P.Pkt.plain) _ c.pop.new.self.items c.in-Some.act c.in-Some.ensures.items c.loop-act.invariant.fit).0;
+}
