@@ -12,21 +12,22 @@ use Rattle.node_step.specs.Part.{PlainPart, counts, drops}
 use Rattle.node_rules.specs.Worlds.{event_of}
 use Rattle.lp_run.specs.declared.stop.LpStop.{LpStop}
 use Rattle.lp_run.specs.declared.stop.LpStop.TheVariants.{Limit}
-use Rattle.lp_run.specs.Lp.{HasRun, HasStopped, PlainLp, made}
+use Rattle.lp_run.specs.Lp.{HasRun, HasRunIn, HasStopped, PlainLp, made}
 use Rattle.lp_run.specs.Pending.{AreNew}
 use Rattle.sim_world.specs.Opening.{OpensRuns}
 use Rattle.sim_world.specs.World.{PlainWorld}
 use Rattle.plain_kernel.specs.declared.report.Report.{Report}
 use Rattle.plain_kernel.specs.Stop.{HasEnded, MeetsLimit}
 use Rattle.plain_kernel.proofs.Endings.{done, limited, nodes-left}
-use Rattle.plain_kernel.proofs.Whole.{group, whole}
+use Rattle.plain_kernel.specs.Run.{shape_in}
+use Rattle.plain_kernel.proofs.Whole.{group, well-in, whole}
 
 pub all-new : {Load : Type 0} (events : List (Event Load)) → HaveOwnKeys (λ e. e.key) events → AreNew events []
 all-new [] own = tt
 all-new (e ∷ events) own = (tt, all-map _ (λ x. x.key ≢ e.key) (λ x differ same. differ (sym same)) events own.0, all-new events own.1)
 
 -- what a group reports that has come to its end
-pub ended : (w : PlainWorld) (opens : OpensRuns w) (new : PlainLp) (run : HasRun w.stop.0 (group w) new) (report : Report) →
+pub ended : (w : PlainWorld) (opens : OpensRuns w) (new : PlainLp) (run : HasRunIn (shape_in w) w.stop.0 (group w) new) (report : Report) →
     report.events ≡ new.fired → report.drops ≡ drops new.part.nodes → report.apps.items ≡ counts new.part.nodes →
     report.windows ≡ 0 → report.group_events.items ≡ [] → HasEnded w report
 ended w opens new run report events drops_are apps windows groups =
@@ -45,8 +46,9 @@ ended w opens new run report events drops_are apps windows groups =
 
 -- a group that was made of a world's nodes and first events, up to the world's stop
 module _ (w : PlainWorld) (end : Time) (lp new : PlainLp) (end_is : end ≡ w.stop) (lp_is : lp ≡ group w) where
-  pub ran : HasRun end.0 lp new → HasRun w.stop.0 (group w) new
-  ran h = subst (λ (x : PlainLp). HasRun w.stop.0 x new) lp_is (subst (λ (t : Time). HasRun t.0 lp new) end_is h)
+  pub ran : OpensRuns w → HasRun end.0 lp new → HasRunIn (shape_in w) w.stop.0 (group w) new
+  ran opens h = (subst (λ (x : PlainLp). HasRun w.stop.0 x new) lp_is (subst (λ (t : Time). HasRun t.0 lp new) end_is h))
+      (shape_in w) (well-in w opens)
 
   pub stopped : (stop : LpStop) (key : Key) (node : NodeId) → stop ≡ Limit key node → HasStopped end.0 lp new stop →
       HasStopped w.stop.0 (group w) new (Limit key node)

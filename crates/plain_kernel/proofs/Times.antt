@@ -21,7 +21,7 @@ use Rattle.node_rules.specs.Rules.{room, rules}
 use Rattle.pkt_face.specs.Seen.{plain_line}
 use Rattle.trace_merge.specs.Lines.{IsInTime}
 use Rattle.sim_world.specs.World.{PlainWorld}
-use Rattle.plain_kernel.specs.Run.{ending, run_lines, start}
+use Rattle.plain_kernel.specs.Run.{ending, run_lines, shape_in, start}
 
 module _ {Node Lan Load Text : Type 0} (rules : Rules Node Lan Load Text) (end : ℕ) where
   abbrev Below : List (Firing Text) → Type 0
@@ -59,11 +59,11 @@ module _ (end : ℕ) where
 pub run-below : (w : PlainWorld) → AreBelow w.stop.0 (run_lines w)
 unfolding run_lines ending plain_run opening
 run-below w =
-    let final = plain_run (rules w.limit) w.stop.0 (length w.nodes) (room w.limit) (start w) in
+    let final = plain_run (rules w.limit (shape_in w)) w.stop.0 (length w.nodes) (room w.limit) (start w) in
     subst (λ (fired : List (Firing Text)). AreBelow w.stop.0 (map trace_line (lines_of fired)))
-    (sym (firings-at (rules w.limit) w.stop.0 final (first (below w.stop.0) final.pending)))
+    (sym (firings-at (rules w.limit (shape_in w)) w.stop.0 final (first (below w.stop.0) final.pending)))
     (lines-below w.stop.0 final.fired
-    (fired-below (rules w.limit) w.stop.0 (most_firings (length w.nodes) (room w.limit) (start w)) (start w) tt))
+    (fired-below (rules w.limit (shape_in w)) w.stop.0 (most_firings (length w.nodes) (room w.limit) (start w)) (start w) tt))
 
 module _ {P : Type 0} (plain : P → Packet) (end : ℕ) (early : end ≤ 10 ^ 12) where
   pub own-times : (lines : List (Line P)) → AreBelow end (map (plain_line plain) lines) → AllByRecursion IsInTime lines

@@ -1,10 +1,13 @@
 -- A group that has all nodes is the whole world.
 use Rattle.std.proofs.Common.{◌≡◌, ℕ, ◌<◌, Bool, cond, true, false, [], length, map, slice_get, refl, sym, ap, ◌∙◌, subst, arith, nat_lt, inl, inr, None, Some, Option, zero, suc}
 use Rattle.std.specs.List.{range_with_len}
+use Rattle.std.specs.Prelude.{replicate}
+use Rattle.std.proofs.lemmas.List.{length-replicate}
 use Rattle.std.proofs.lemmas.Bool.{cases_Bool, eq-eqb, lt-ltb, ltb-false, ltb-true}
 use Rattle.std.proofs.lemmas.List.FromFn.{get_or-range_with_len, length-range_with_len}
 use Rattle.std.proofs.lemmas.Option.{slice_get_past}
 use Rattle.sim_base.specs.Packet.{Packet}
+use Rattle.csma_dev.specs.declared.bus.Bus.{Bus}
 use Rattle.round_core.specs.Laws.{IsSound}
 use Rattle.round_core.specs.Opening.{opening}
 use Rattle.round_core.specs.Order.{in_key_order, insert_each}
@@ -16,21 +19,22 @@ use Rattle.round_core.proofs.ListLaws.{all-map, filter-all}
 use Rattle.round_core.proofs.OpeningLaws.{opening-sound}
 use Rattle.round_core.proofs.PartSound.{part-sound}
 use Rattle.node_step.specs.declared.loads.Load.{Load}
-use Rattle.node_step.specs.Firing.{Text}
+use Rattle.node_step.specs.Firing.{Text, bus_at, free}
 use Rattle.node_step.specs.Node.{PlainNode}
 use Rattle.node_step.specs.Part.{PlainPart, has, place_of}
 use Rattle.node_rules.specs.Health.{health}
-use Rattle.node_rules.specs.Rules.{NoLan, rules}
-use Rattle.node_rules.specs.Worlds.{event_of, node_at, node_or, shape_of}
+use Rattle.node_rules.specs.Rules.{rules}
+use Rattle.node_rules.specs.Worlds.{event_of, node_at, node_or}
 use Rattle.node_rules.proofs.RuleLaws.{lawful}
-use Rattle.lp_run.specs.Lp.{IsWellLp, PlainLp, beside, here, made, nodes_of, own_group, part_of}
+use Rattle.node_rules.specs.Shape.{Shape}
+use Rattle.lp_run.specs.Lp.{IsWellIn, PlainLp, beside, here, made, nodes_of, own_group, part_of}
 use Rattle.sim_world.specs.Opening.{OpensRuns}
 use Rattle.sim_world.specs.World.{PlainWorld}
-use Rattle.plain_kernel.specs.Run.{RunWorld, start}
+use Rattle.plain_kernel.specs.Run.{RunWorld, shape_in, start}
 
 -- the part that has all nodes, in their order
 abbrev pub whole : PlainWorld → PlainPart
-whole w = record { places = range_with_len 0 (length w.nodes); nodes = w.nodes; limit = w.limit }
+whole w = record { places = range_with_len 0 (length w.nodes); nodes = w.nodes; lans = replicate w.lans free; limit = w.limit }
 
 -- a group of all nodes that has fired nothing yet
 abbrev pub group : PlainWorld → PlainLp
@@ -62,12 +66,18 @@ module _ (w : PlainWorld) where
     | inr f ↦ rw (has-no_node n f) (ap (node_or n) (sym (slice_get_past w.nodes n (ltb-false n count f))))
   ]
 
+  -- no frame has used a bus
+  unused : (lans lan : ℕ) → bus_at (replicate lans free) lan ≡ free
+  unused zero lan = refl
+  unused (suc lans) zero = refl
+  unused (suc lans) (suc lan) = unused lans lan
+
   -- as a part of the rounds, it is the world in which the run begins
   pub same-world : (part_of (group w)).world ≡ start w
   unfolding opening
   same-world i = record {
     nodes = λ n. same-node n i;
-    lans = λ lan. tt;
+    lans = λ lan. unused w.lans lan i;
     pending = in_key_order (λ e. e.key) (map event_of w.first);
     fired = [];
   }
@@ -76,13 +86,13 @@ module _ (w : PlainWorld) where
   own n low = rw (has-node n low) refl
 
   module _ (opens : OpensRuns w) where
-    pub sound : IsSound (rules w.limit) (health (shape_of w.nodes)) (start w)
-    sound = opening-sound (rules w.limit) (health (shape_of w.nodes)) (node_at w.nodes) (λ lan. tt) (map event_of w.first) opens
+    pub sound : IsSound (rules w.limit (shape_in w)) (health (shape_in w)) (start w)
+    sound = opening-sound (rules w.limit (shape_in w)) (health (shape_in w)) (node_at w.nodes) (λ lan. free) (map event_of w.first) opens
 
-    at_start : IsSound (rules w.limit) (health (shape_of w.nodes)) (part_of (group w)).world
-    at_start = subst (λ (x : RunWorld). IsSound (rules w.limit) (health (shape_of w.nodes)) x) (sym same-world) sound
+    at_start : IsSound (rules w.limit (shape_in w)) (health (shape_in w)) (part_of (group w)).world
+    at_start = subst (λ (x : RunWorld). IsSound (rules w.limit (shape_in w)) (health (shape_in w)) x) (sym same-world) sound
 
-    pub group-sound : IsPartSound (rules w.limit) (health (shape_of w.nodes)) (own_group (whole w)) 0 (part_of (group w))
+    pub group-sound : IsPartSound (rules w.limit (shape_in w)) (health (shape_in w)) (own_group (whole w)) 0 (part_of (group w))
     group-sound = record {
       health = at_start.health;
       rising = at_start.rising;
@@ -112,44 +122,47 @@ module _ (w : PlainWorld) where
       | inr f ↦ absurd (let d : true ≡ false = sym h ∙ has-no_node n f in cc)
     ]
 
-    pub well : IsWellLp (group w)
-    well = record {
-      shape = shape_of w.nodes;
+    pub well-in : IsWellIn (shape_in w) (group w)
+    well-in = record {
       others = nodes_of (whole w);
       nodes = sym (length-range_with_len 0 count);
+      lans = length-replicate w.lans free;
       apart = λ n m h k same. sym (place-is n (inside n h)) ∙ same ∙ place-is m (inside m k);
-      sound = subst (λ (p : Part PlainNode NoLan (Load Packet) Text). IsPartSound (rules w.limit) (health (shape_of w.nodes)) (own_group (whole w)) 0 p)
+      sound = subst (λ (p : Part PlainNode Bus (Load Packet) Text). IsPartSound (rules w.limit (shape_in w)) (health (shape_in w)) (own_group (whole w)) 0 p)
           same-beside group-sound;
     }
 
+    pub well : (shape : Shape) × IsWellIn shape (group w)
+    well = (shape_in w, well-in)
+
     -- its firings are plain firings
-    one-after : (end : ℕ) (p : Part PlainNode NoLan (Load Packet) Text) (r : Ready PlainNode NoLan (Load Packet) Text) →
-        IsPartSound (rules w.limit) (health (shape_of w.nodes)) (own_group (whole w)) 0 p → next (rules w.limit) (below end) p.world ≡ Some r →
-        (part_after (rules w.limit) (own_group (whole w)) 0 end p r).world ≡ after (rules w.limit) (below end) p.world r
+    one-after : (end : ℕ) (p : Part PlainNode Bus (Load Packet) Text) (r : Ready PlainNode Bus (Load Packet) Text) →
+        IsPartSound (rules w.limit (shape_in w)) (health (shape_in w)) (own_group (whole w)) 0 p → next (rules w.limit (shape_in w)) (below end) p.world ≡ Some r →
+        (part_after (rules w.limit (shape_in w)) (own_group (whole w)) 0 end p r).world ≡ after (rules w.limit (shape_in w)) (below end) p.world r
     unfolding part_after after
     one-after end p r kept is =
-        let events = scheduled r.event.key ((rules w.limit).counter (p.world.nodes r.event.key.node.0)) r.effect.sends in
-        let owed = ready-owed (rules w.limit) (health (shape_of w.nodes)) (lawful w.limit (shape_of w.nodes)) (below end) p.world r kept.health is in
+        let events = scheduled r.event.key ((rules w.limit (shape_in w)).counter (p.world.nodes r.event.key.node.0)) r.effect.sends in
+        let owed = ready-owed (rules w.limit (shape_in w)) (health (shape_in w)) (lawful w.limit (shape_in w)) (below end) p.world r kept.health is in
         let all = filter-all (is_for (own_group (whole w)) 0) events
         (all-map _ (λ (e : Event (Load Packet)). is_for (own_group (whole w)) 0 e ≡ true)
         (λ e ok. eq-eqb (own_group (whole w) e.key.node.0) 0 (own e.key.node.0 ok.known)) events owed.events_ok) in
-        λ i. record (after (rules w.limit) (below end) p.world r) {
+        λ i. record (after (rules w.limit (shape_in w)) (below end) p.world r) {
           pending = insert_each (λ e. e.key) (all i) (without_first (below end) p.world.pending);
         }
 
-    pub firings : (end n : ℕ) (p : Part PlainNode NoLan (Load Packet) Text) →
-        IsPartSound (rules w.limit) (health (shape_of w.nodes)) (own_group (whole w)) 0 p →
-        (part_firings (rules w.limit) (own_group (whole w)) 0 end n p).world ≡ plain_firings (rules w.limit) end n p.world
+    pub firings : (end n : ℕ) (p : Part PlainNode Bus (Load Packet) Text) →
+        IsPartSound (rules w.limit (shape_in w)) (health (shape_in w)) (own_group (whole w)) 0 p →
+        (part_firings (rules w.limit (shape_in w)) (own_group (whole w)) 0 end n p).world ≡ plain_firings (rules w.limit (shape_in w)) end n p.world
     unfolding part_firings plain_firings fire
     firings end zero p kept = refl
-    firings end (suc n) p kept = go (firings end n) (next (rules w.limit) (below end) p.world) refl
+    firings end (suc n) p kept = go (firings end n) (next (rules w.limit (shape_in w)) (below end) p.world) refl
       where
-        go : ((q : Part PlainNode NoLan (Load Packet) Text) → IsPartSound (rules w.limit) (health (shape_of w.nodes)) (own_group (whole w)) 0 q →
-            (part_firings (rules w.limit) (own_group (whole w)) 0 end n q).world ≡ plain_firings (rules w.limit) end n q.world) →
-            (o : Option (Ready PlainNode NoLan (Load Packet) Text)) → next (rules w.limit) (below end) p.world ≡ o →
-            (part_firings (rules w.limit) (own_group (whole w)) 0 end n (part_next (rules w.limit) (own_group (whole w)) 0 end p o)).world
-            ≡ plain_firings (rules w.limit) end n (after_next (rules w.limit) (below end) p.world o)
+        go : ((q : Part PlainNode Bus (Load Packet) Text) → IsPartSound (rules w.limit (shape_in w)) (health (shape_in w)) (own_group (whole w)) 0 q →
+            (part_firings (rules w.limit (shape_in w)) (own_group (whole w)) 0 end n q).world ≡ plain_firings (rules w.limit (shape_in w)) end n q.world) →
+            (o : Option (Ready PlainNode Bus (Load Packet) Text)) → next (rules w.limit (shape_in w)) (below end) p.world ≡ o →
+            (part_firings (rules w.limit (shape_in w)) (own_group (whole w)) 0 end n (part_next (rules w.limit (shape_in w)) (own_group (whole w)) 0 end p o)).world
+            ≡ plain_firings (rules w.limit (shape_in w)) end n (after_next (rules w.limit (shape_in w)) (below end) p.world o)
         go rest None is = rest p kept
-        go rest (Some r) is = rest (part_after (rules w.limit) (own_group (whole w)) 0 end p r)
-            (part-sound (rules w.limit) (health (shape_of w.nodes)) (lawful w.limit (shape_of w.nodes)) (own_group (whole w)) 0 end p r kept is)
-            ∙ ap (plain_firings (rules w.limit) end n) (one-after end p r kept is)
+        go rest (Some r) is = rest (part_after (rules w.limit (shape_in w)) (own_group (whole w)) 0 end p r)
+            (part-sound (rules w.limit (shape_in w)) (health (shape_in w)) (lawful w.limit (shape_in w)) (own_group (whole w)) 0 end p r kept is)
+            ∙ ap (plain_firings (rules w.limit (shape_in w)) end n) (one-after end p r kept is)

@@ -3,6 +3,7 @@ use Rattle.std.specs.Prelude.{◌≡◌, ℕ, List, [], length, map}
 use Rattle.std.specs.List.{range_with_len}
 use Rattle.sim_base.specs.Packet.{Packet}
 use Rattle.pkt_face.specs.declared.line.Line.{Line}
+use Rattle.csma_dev.specs.declared.bus.Bus.{Bus}
 use Rattle.round_core.specs.Bound.{plain_ending}
 use Rattle.round_core.specs.Lines.{lines_of}
 use Rattle.round_core.specs.Rounds.{Ending, firings_of}
@@ -12,23 +13,28 @@ use Rattle.node_step.specs.Firing.{Text}
 use Rattle.node_step.specs.Node.{PlainNode}
 use Rattle.node_step.specs.Part.{counts, drops}
 use Rattle.node_rules.specs.Firings.{trace_line}
-use Rattle.node_rules.specs.Rules.{NoLan, room, rules}
-use Rattle.node_rules.specs.Worlds.{opening_world}
+use Rattle.node_rules.specs.Rules.{room, rules}
+use Rattle.node_rules.specs.Shape.{Shape}
+use Rattle.node_rules.specs.Worlds.{opening_world, shape_of}
 use Rattle.lp_run.specs.Lp.{counted}
 use Rattle.sim_world.specs.World.{PlainWorld}
 use Rattle.plain_kernel.specs.declared.report.Report.{Report}
 
--- nodes and pending events, as the laws of runs see them
+-- nodes, buses and pending events, as the laws of runs see them
 abbrev pub RunWorld : Type 0
-RunWorld = World PlainNode NoLan (Load Packet) Text
+RunWorld = World PlainNode Bus (Load Packet) Text
+
+-- what the world has, as long as it runs
+abbrev pub shape_in : PlainWorld → Shape
+shape_in w = shape_of w.lans w.nodes
 
 -- where the run begins
 abbrev pub start : PlainWorld → RunWorld
 start w = opening_world w.nodes w.first
 
 -- how the run ends
-unfoldable pub ending : PlainWorld → Ending PlainNode NoLan (Load Packet) Text
-ending w = plain_ending (rules w.limit) w.stop.0 (length w.nodes) (room w.limit) (start w)
+unfoldable pub ending : PlainWorld → Ending PlainNode Bus (Load Packet) Text
+ending w = plain_ending (rules w.limit (shape_in w)) w.stop.0 (length w.nodes) (room w.limit) (start w)
 
 -- the lines that its firings write
 unfoldable pub run_lines : PlainWorld → List (Line Packet)

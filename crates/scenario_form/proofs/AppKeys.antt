@@ -1,5 +1,5 @@
 -- What a kind of application asks for stands.
-use Rattle.std.proofs.Common.{◌≡◌, ℕ, ℤ, ◌<◌, pos, true, List, [], ◌∷◌, length, get_or, Option, Some, None, option_map, option_and_then, unwrap_or, is_some, Ok, IsSome, refl, arith, codes}
+use Rattle.std.proofs.Common.{◌≡◌, ℕ, ℤ, ◌<◌, ◌≤◌, pos, true, List, [], ◌∷◌, length, get_or, Option, Some, None, option_map, option_and_then, unwrap_or, is_some, Ok, IsSome, refl, arith, codes}
 use Rattle.toml.specs.Data.{Data, Members, as_integer, as_str, get_member}
 use Rattle.scenario_form.specs.declared.field.Code.TheVariants.{Range}
 use Rattle.scenario_form.specs.declared.field.Code.TheVariants as code
@@ -9,11 +9,12 @@ use Rattle.scenario_form.specs.Address.{address}
 use Rattle.scenario_form.specs.Checks.{require, refuse_as}
 use Rattle.scenario_form.specs.Forms.{of_type, is_from_to}
 use Rattle.scenario_form.specs.Rows.{Row, must, may, integer, addr, flag, fault, value_check, row_check, table_check}
-use Rattle.scenario_form.specs.Values.{natural, rate_of, time_of, number_in, number_at, address_at}
+use Rattle.scenario_form.specs.Values.{natural, rate_of, time_of, number_in, number_at, number_or, address_at}
 use Rattle.scenario_form.specs.Tables.{rows_of_kind, app_of}
-use Rattle.scenario_form.specs.Limits.{HasKeys}
+use Rattle.scenario_form.specs.Limits.{HasKeys, IsFromTo}
 use Rattle.scenario_form.proofs.Steps.{require_ok, refuse_ok}
 use Rattle.scenario_form.proofs.Counted.{field_ok}
+use Rattle.scenario_form.proofs.FieldNumbers.{may_number}
 
 -- ---- what has to stand does
 
@@ -67,6 +68,14 @@ number_there : (nodes n low high : ℕ) (k : List ℕ) (i : ℕ) (rows : List Ro
     → table_check nodes rows t ≡ Ok tt → IsSome (number_at k t)
 number_there nodes n low high k i rows t lt is h = some_number nodes n low high k t (rw is at (field_ok nodes rows t i (may 0 [] flag) lt h))
 
+-- `on-off` sends at least one byte
+some_bytes : (nodes : ℕ) (t : Members) → table_check nodes (rows_of_kind (Some OnOff)) t ≡ Ok tt → 1 ≤ number_or 512 (codes "size") t
+some_bytes nodes t h =
+    let default : IsFromTo 1 65507 512 = record { from = omega arith; to = omega arith } in
+    let is : IsFromTo 1 65507 (number_or 512 (codes "size") t) =
+    may_number nodes 8 1 65507 512 (codes "size") t default (field_ok nodes (rows_of_kind (Some OnOff)) t 6 (may 0 [] flag) (omega arith) h) in
+    is.from
+
 -- an application that passed has what its kind asks for
 pub app_keys : (nodes : ℕ) (o : Option Kind) (t : Members) → table_check nodes (rows_of_kind o) t ≡ Ok tt → HasKeys (unwrap_or o UdpSink) (app_of t)
 app_keys nodes None t h = port_at nodes 2 (rows_of_kind None) t (omega arith) refl h
@@ -82,6 +91,7 @@ app_keys nodes (Some OnOff) t h = (
   some_rate (number_at (codes "rate_bps") t) (number_there nodes 10 1 1000000000000 (codes "rate_bps") 8 (rows_of_kind (Some OnOff)) t (omega arith) refl h),
   some_time (number_at (codes "on_ns") t) (number_there nodes 11 1 1000000000000 (codes "on_ns") 9 (rows_of_kind (Some OnOff)) t (omega arith) refl h),
   some_time (number_at (codes "off_ns") t) (number_there nodes 12 0 1000000000000 (codes "off_ns") 10 (rows_of_kind (Some OnOff)) t (omega arith) refl h),
+  some_bytes nodes t h,
 )
 app_keys nodes (Some Ping) t h = dst_at nodes 2 (rows_of_kind (Some Ping)) t (omega arith) refl h
 app_keys nodes (Some TcpBulk) t h = (

@@ -80,14 +80,14 @@ pub record IsRoute (nodes : ℕ) (r : Route) : Type 0 where
   pub prefix : IsFromTo 0 30 r.prefix
   pub dest : host_part r.prefix r.dest ≡ 0
 
--- what a kind of application asks for and has no default
+-- what a kind of application asks for and has no default; `on-off` sends at least one byte
 abbrev pub HasKeys : Kind → App → Type 0
 HasKeys UdpSend a = IsSome a.port × IsSome a.dst
 HasKeys UdpEchoClient a = IsSome a.port × IsSome a.dst
 HasKeys UdpSink a = IsSome a.port
 HasKeys UdpEchoServer a = IsSome a.port
 HasKeys TcpSink a = IsSome a.port
-HasKeys OnOff a = IsSome a.port × IsSome a.dst × IsSome a.rate_bps × IsSome a.on_ns × IsSome a.off_ns
+HasKeys OnOff a = IsSome a.port × IsSome a.dst × IsSome a.rate_bps × IsSome a.on_ns × IsSome a.off_ns × (1 ≤ a.size)
 HasKeys Ping a = IsSome a.dst
 HasKeys TcpBulk a = IsSome a.port × IsSome a.dst × IsSome a.bytes
 

@@ -1,11 +1,14 @@
 pub mod GroupLaws
 pub mod EndLaws
+pub mod EndLimits
 pub mod RouteLaws
 pub mod AppLaws
 pub mod FitLaws
 pub mod RangeLaws
 pub mod PlanLaws
 pub mod WiringLaws
+pub mod LanLaws
+pub mod LossLaws
 pub mod TickLaws
 pub mod WorldLaws
 pub mod ShareLaws

@@ -1,11 +1,10 @@
--- Tables of routes, addresses, and look-ups by the other end's address.
-use Rattle.std.proofs.Common.{◌≡◌, ◌≢◌, ℕ, zero, suc, ◌+◌, ◌<◌, ◌≤◌, nat_eq, nat_lt, Bool, true, false, cond, List, [], ◌∷◌, ◌++◌, length, take, drop, fold, get_or, Option, Some, None, option_map, is_some, IfSome, refl, sym, ap, subst, ◌∙◌, arith, append_assoc}
+-- Tables of routes, addresses, and look-ups of interfaces.
+use Rattle.std.proofs.Common.{◌≡◌, ◌≢◌, ℕ, zero, suc, ◌+◌, ◌<◌, ◌≤◌, nat_eq, nat_lt, Bool, true, false, cond, List, [], ◌∷◌, ◌++◌, length, take, drop, fold, find, get_or, Option, Some, None, is_some, IfSome, refl, sym, ap, subst, ◌∙◌, arith, append_assoc}
 use Rattle.std.specs.Prelude.{◌==◌, All}
 use Rattle.std.specs.List.{AllByRecursion, filter_map, cons_option}
 use Rattle.std.specs.Option.{option_or}
 use Rattle.std.specs.declared.cmp.Ordering.TheVariants.{Less, Equal, Greater}
 use Rattle.std.specs.Ordering.{nat_cmp, is_eq}
-use Rattle.std.specs.BTreeMap.{BTreeMap, get}
 use Rattle.std.specs.BTreeSet.{insert_key}
 use Rattle.std.proofs.lemmas.List.{append-nil, take_more, at_drop_more}
 use Rattle.std.proofs.lemmas.List.Elements.{All-head, All-tail}
@@ -15,8 +14,8 @@ use Rattle.ipv4_core.specs.Routes.{PlainTable, IsFalling}
 use Rattle.scenario_form.specs.declared.scenario.Route.{Route}
 use Rattle.sim_world.specs.declared.ends.End.{End}
 use Rattle.sim_world.specs.declared.routing.Entry.{Entry}
-use Rattle.sim_world.specs.Ends.{IsEnd}
-use Rattle.sim_world.specs.Routing.{toward, listed, listed_by, listed_in, ways_of, with_table, tables_below, with_own}
+use Rattle.sim_world.specs.Networks.{IsNetwork}
+use Rattle.sim_world.specs.Routing.{first_on, listed, ways_of, with_table, tables_below, with_own}
 
 -- ---- prefixes fall
 
@@ -94,13 +93,15 @@ pub own_next : (i : ℕ) (ends : List End) (d : End) (old new all : List ℕ) �
 own_next i ends d old new all lt so_far added =
     ap (λ own. fold with_own own (drop (i + 1) ends)) added ∙ sym (at_drop_more (fold with_own old) ends i d lt) ∙ so_far
 
--- ---- look-ups by the other end's address
+-- ---- the first interface under a number
 
--- the first end of some, and then of one more
-after_one : (addr : ℕ) (ends : List End) (i : ℕ) (d : End) → i < length ends
-    → toward addr (take (i + 1) ends) ≡ option_or (toward addr (take i ends)) (cond (nat_eq (get_or ends i d).peer_addr addr) (Some (get_or ends i d)) None)
-after_one addr ends i d lt =
-    ap (toward addr) (take_more ends i d lt) ∙ find-append (λ e. e.peer_addr == addr) (take i ends) (get_or ends i d ∷ [])
+abbrev first_by : (End → ℕ) → List End → ℕ → Option End
+first_by key ends n = find (λ e. key e == n) ends
+
+-- the first of some, and then of one more
+after_one : (key : End → ℕ) (n : ℕ) (ends : List End) (e : End)
+    → first_by key (ends ++ e ∷ []) n ≡ option_or (first_by key ends n) (cond (nat_eq (key e) n) (Some e) None)
+after_one key n ends e = find-append (λ x. key x == n) ends (e ∷ [])
 
 same_number : (n m : ℕ) → nat_eq n m ≡ true → n ≡ m
 same_number n m h = grind arith
@@ -114,59 +115,59 @@ cmp_cases a b false false l e = refl
 cmp_is : (a b : ℕ) → is_eq (nat_cmp a b) ≡ nat_eq a b
 cmp_is a b = cmp_cases a b (nat_lt a b) (nat_eq a b) refl refl
 
--- an end to whose other side none led before
-first_at : (addr k : ℕ) (e : End) (old new : Option End) (b : Bool) → nat_eq k addr ≡ b → (k ≡ addr → is_some old ≡ false) → new ≡ cond (nat_eq k addr) (Some e) old
-    → new ≡ option_or old (cond (nat_eq k addr) (Some e) None)
-first_at addr k e None new b is none put = put
-first_at addr k e (Some o) new true is none put = let no : is_some (Some o) ≡ false = none (same_number k addr is) in cc
-first_at addr k e (Some o) new false is none put = put ∙ rw is refl
+-- an end under whose number none was before
+first_at : (n k : ℕ) (e : End) (old new : Option End) (b : Bool) → nat_eq k n ≡ b → (k ≡ n → is_some old ≡ false) → new ≡ cond (nat_eq k n) (Some e) old
+    → new ≡ option_or old (cond (nat_eq k n) (Some e) None)
+first_at n k e None new b is none put = put
+first_at n k e (Some o) new true is none put = let no : is_some (Some o) ≡ false = none (same_number k n is) in cc
+first_at n k e (Some o) new false is none put = put ∙ rw is refl
 
-pub first_inserted : (addr : ℕ) (ends : List End) (i : ℕ) (d : End) (old new : ℕ → Option End) → i < length ends → ((a : ℕ) → old a ≡ toward a (take i ends))
-    → is_some (old (get_or ends i d).peer_addr) ≡ false → new addr ≡ cond (is_eq (nat_cmp (get_or ends i d).peer_addr addr)) (Some (get_or ends i d)) (old addr)
-    → new addr ≡ toward addr (take (i + 1) ends)
-first_inserted addr ends i d old new lt known none put =
-    let k : ℕ = (get_or ends i d).peer_addr in
-    first_at addr k (get_or ends i d) (old addr) (new addr) (nat_eq k addr) refl (λ e. ap (λ a. is_some (old a)) (sym e) ∙ none)
-    (put ∙ ap (λ b. cond b (Some (get_or ends i d)) (old addr)) (cmp_is k addr))
-    ∙ ap (λ o. option_or o (cond (nat_eq k addr) (Some (get_or ends i d)) None)) (known addr)
-    ∙ sym (after_one addr ends i d lt)
+pub first_inserted : (key : End → ℕ) (n : ℕ) (ends : List End) (e : End) (old new : ℕ → Option End) → ((m : ℕ) → old m ≡ first_by key ends m)
+    → is_some (old (key e)) ≡ false → new n ≡ cond (is_eq (nat_cmp (key e) n)) (Some e) (old n)
+    → new n ≡ first_by key (ends ++ e ∷ []) n
+first_inserted key n ends e old new known none put =
+    first_at n (key e) e (old n) (new n) (nat_eq (key e) n) refl (λ is. ap (λ m. is_some (old m)) (sym is) ∙ none)
+    (put ∙ ap (λ b. cond b (Some e) (old n)) (cmp_is (key e) n))
+    ∙ ap (λ o. option_or o (cond (nat_eq (key e) n) (Some e) None)) (known n)
+    ∙ sym (after_one key n ends e)
 
-later_at : (addr k : ℕ) (e : End) (old : Option End) (b : Bool) → nat_eq k addr ≡ b → (k ≡ addr → is_some old ≡ true) → old ≡ option_or old (cond (nat_eq k addr) (Some e) None)
-later_at addr k e (Some o) b is some = refl
-later_at addr k e None true is some = let no : is_some {T = End} None ≡ true = some (same_number k addr is) in cc
-later_at addr k e None false is some = rw is refl
+later_at : (n k : ℕ) (e : End) (old : Option End) (b : Bool) → nat_eq k n ≡ b → (k ≡ n → is_some old ≡ true) → old ≡ option_or old (cond (nat_eq k n) (Some e) None)
+later_at n k e (Some o) b is some = refl
+later_at n k e None true is some = let no : is_some {T = End} None ≡ true = some (same_number k n is) in cc
+later_at n k e None false is some = rw is refl
 
-pub not_first : (addr : ℕ) (ends : List End) (i : ℕ) (d : End) (old : ℕ → Option End) → i < length ends → ((a : ℕ) → old a ≡ toward a (take i ends))
-    → is_some (old (get_or ends i d).peer_addr) ≡ true → old addr ≡ toward addr (take (i + 1) ends)
-not_first addr ends i d old lt known some =
-    let k : ℕ = (get_or ends i d).peer_addr in
-    later_at addr k (get_or ends i d) (old addr) (nat_eq k addr) refl (λ e. ap (λ a. is_some (old a)) (sym e) ∙ some)
-    ∙ ap (λ o. option_or o (cond (nat_eq k addr) (Some (get_or ends i d)) None)) (known addr)
-    ∙ sym (after_one addr ends i d lt)
+pub not_first : (key : End → ℕ) (n : ℕ) (ends : List End) (e : End) (old : ℕ → Option End) → ((m : ℕ) → old m ≡ first_by key ends m)
+    → is_some (old (key e)) ≡ true → old n ≡ first_by key (ends ++ e ∷ []) n
+not_first key n ends e old known some =
+    later_at n (key e) e (old n) (nat_eq (key e) n) refl (λ is. ap (λ m. is_some (old m)) (sym is) ∙ some)
+    ∙ ap (λ o. option_or o (cond (nat_eq (key e) n) (Some e) None)) (known n)
+    ∙ sym (after_one key n ends e)
 
-found_first : (b : Bool) (e : End) (o : Option End) → IsEnd e → IfSome o IsEnd → IfSome (cond b (Some e) o) IsEnd
+-- one end more of a list, behind others
+pub next_first : (key : End → ℕ) (n : ℕ) (before ends : List End) (i : ℕ) (d : End) → i < length ends
+    → first_by key ((before ++ take i ends) ++ get_or ends i d ∷ []) n ≡ first_by key (before ++ take (i + 1) ends) n
+next_first key n before ends i d lt =
+    ap (λ l. first_by key l n) (append_assoc before (take i ends) (get_or ends i d ∷ []) ∙ ap (λ l. before ++ l) (sym (take_more ends i d lt)))
+
+found_first : (b : Bool) (e : End) (o : Option End) → IsNetwork e.network → IfSome o (λ e. IsNetwork e.network) → IfSome (cond b (Some e) o) (λ e. IsNetwork e.network)
 found_first true e o is rest = is
 found_first false e o is rest = rest
 
 -- what is found is within the limits
-found_at : (addr : ℕ) (ends : List End) → All IsEnd ends → IfSome (toward addr ends) IsEnd
-found_at addr [] are = tt
-found_at addr (e ∷ ends) are = found_first (e.peer_addr == addr) e (toward addr ends) (All-head IsEnd e ends are) (found_at addr ends (All-tail IsEnd e ends are))
+found_at : (n : ℕ) (ends : List End) → All (λ e. IsNetwork e.network) ends → IfSome (first_on ends n) (λ e. IsNetwork e.network)
+found_at n [] are = tt
+found_at n (e ∷ ends) are =
+    found_first (e.network.number == n) e (first_on ends n) (All-head (λ (x : End). IsNetwork x.network) e ends are)
+    (found_at n ends (All-tail (λ (x : End). IsNetwork x.network) e ends are))
 
-pub found : (addr : ℕ) (ends : List End) (o : Option End) → o ≡ toward addr ends → All IsEnd ends → IfSome o IsEnd
-found addr ends o is are = subst (λ x. IfSome x IsEnd) (sym is) (found_at addr ends are)
+pub found : (n : ℕ) (ends : List End) (o : Option End) → o ≡ first_on ends n → All (λ e. IsNetwork e.network) ends → IfSome o (λ e. IsNetwork e.network)
+found n ends o is are = subst (λ (x : Option End). IfSome x (λ e. IsNetwork e.network)) (sym is) (found_at n ends are)
 
 -- ---- listed routes
 
-pub same_listed : (m : BTreeMap ℕ End) (ends : List End) (routes : List Route) → ((addr : ℕ) → get nat_cmp m addr ≡ toward addr ends)
-    → filter_map (listed_in m) routes ≡ filter_map (listed ends) routes
-same_listed m ends [] known = refl
-same_listed m ends (r ∷ routes) known =
-    ap (λ o. cons_option (option_map (listed_by r) o) (filter_map (listed_in m) routes)) (known r.via)
-    ∙ ap (cons_option (listed ends r)) (same_listed m ends routes known)
-
-pub mtu_of : (o : Option End) (e : End) → IfSome o IsEnd → o ≡ Some e → e.link.mtu ≤ 65535
-mtu_of o e is at = let one : IfSome (Some e) IsEnd = subst (λ x. IfSome x IsEnd) at is in one.mtu
+pub same_listed : (holder on : ℕ → Option End) (ends : List End) (routes : List Route) → ((n : ℕ) → on n ≡ first_on ends n)
+    → filter_map (listed holder on) routes ≡ filter_map (listed holder (first_on ends)) routes
+same_listed holder on ends routes known = ap (λ (f : ℕ → Option End). filter_map (listed holder f) routes) (λ i n. known n i)
 
 -- one listed route more, which leaves by an interface
 pub listed_some : (f : Route → Option Entry) (routes : List Route) (i : ℕ) (d : Route) (e : Entry) (old new all : List Entry) → i < length routes

@@ -1,12 +1,13 @@
 -- The shares of a world, while nodes and events go to their groups.
-use Rattle.std.proofs.Common.{◌≡◌, ◌≢◌, ℕ, zero, suc, ◌+◌, ◌<◌, ◌≤◌, ◌^◌, ◌⊎◌, Bool, true, false, List, [], ◌∷◌, ◌++◌, All, Option, Some, None, slice_get, slice_index, get_or, set, filter, length, length-set, length-append, map, replicate, reverse, refl, sym, ap, ◌∙◌, subst, inl, inr, arith, append_assoc}
+use Rattle.std.proofs.Common.{◌≡◌, ◌≢◌, ℕ, zero, suc, ◌+◌, ◌<◌, ◌≤◌, ◌^◌, ◌⊎◌, true, false, List, [], ◌∷◌, ◌++◌, All, Option, Some, None, slice_get, slice_index, get_or, set, filter, length, length-set, length-append, map, replicate, reverse, refl, sym, ap, ◌∙◌, subst, inl, inr, arith, append_assoc}
 use Rattle.std.proofs.lemmas.Bool.{cases_eq, eq-eqb}
 use Rattle.std.proofs.lemmas.Bool.Decides.{eqb_tells}
-use Rattle.std.proofs.lemmas.List.{append-nil, get_or-replicate, get_or-set_other, get_or-set_same, length-map, length-replicate, map-append, reverse-append, reverse-reverse}
-use Rattle.std.proofs.lemmas.Option.{get_or_from_slice_get, slice_get-get_or, slice_get-map, slice_get_past, slice_get_within}
+use Rattle.std.proofs.lemmas.List.{append-nil, get_or-replicate, get_or-set_other, get_or-set_same, length-map, length-replicate, reverse-append, reverse-reverse}
+use Rattle.std.proofs.lemmas.Option.{get_or_from_slice_get, slice_get-get_or, slice_get-map, slice_get_within}
 use Rattle.std.specs.Option.{option_map}
 use Rattle.sim_base.specs.Packet.{Packet}
 use Rattle.node_step.specs.declared.loads.Event.{Event}
+use Rattle.node_step.specs.Firing.{free}
 use Rattle.node_step.specs.Node.{PlainNode}
 use Rattle.node_step.specs.Part.{PlainPart}
 use Rattle.sim_world.specs.Shares.{AreSplit, HaveNodes, IsPartOf, IsPlaced, KeepNodes, PlainShare, as_part, changed, empty_share, is_of, with_event, with_node}
@@ -277,15 +278,15 @@ none-left (x ∷ xs) h = absurd (let d : false ≡ true = h (omega arith) in cc)
 -- the shares that have all nodes and events, as parts
 pub are-split : (w : PlainWorld) (group_of : List ℕ) (groups : ℕ) (first second third : List PlainShare)
     (parts : List (PlainPart × List (Event Packet))) → length first ≡ groups → HaveNodes group_of w.nodes 0 first second →
-    KeepNodes group_of w.first [] second third → parts ≡ map (as_part w.limit) third → AreSplit w group_of groups parts
+    KeepNodes group_of w.first [] second third → parts ≡ map (as_part (replicate w.lans free) w.limit) third → AreSplit w group_of groups parts
 are-split w group_of groups first second third parts many have keep are = record {
-  count = ap length are ∙ length-map third (as_part w.limit) ∙ keep.count ∙ have.count ∙ many;
+  count = ap length are ∙ length-map third (as_part (replicate w.lans free) w.limit) ∙ keep.count ∙ have.count ∙ many;
   each = each;
 }
   where
     each : (g : ℕ) (made : PlainPart × List (Event Packet)) → slice_get parts g ≡ Some made → IsPartOf w group_of g made
     each g made is =
-        let found = some-mapped (as_part w.limit) (slice_get third g) made (sym (slice_get-map (as_part w.limit) third g) ∙ ap (λ l. slice_get l g) (sym are) ∙ is) in
+        let found = some-mapped (as_part (replicate w.lans free) w.limit) (slice_get third g) made (sym (slice_get-map (as_part (replicate w.lans free) w.limit) third g) ∙ ap (λ l. slice_get l g) (sym are) ∙ is) in
         let s : PlainShare = found.0 in
         let k = keep.each g s found.1 in
         let placed = (have.each g k.0 k.1).0 in
@@ -294,6 +295,7 @@ are-split w group_of groups first second third parts many have keep are = record
         let mine : IsPlaced group_of w.nodes 0 g s.places s.nodes = subst Q (sym k.3) (subst P (sym k.2) placed) in
         subst (λ (x : PlainPart × List (Event Packet)). IsPartOf w group_of g x) (sym found.2) (record {
           placed = mine;
+          lans = refl;
           limit = refl;
           first = sym (append-nil s.first) ∙ k.4;
         })

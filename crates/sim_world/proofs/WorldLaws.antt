@@ -1,35 +1,46 @@
 -- The world of an accepted scenario is one that runs may begin with.
 use Rattle.std.proofs.Common.{◌≡◌, ℕ, zero, suc, ◌+◌, ◌<◌, ◌≤◌, false, List, [], ◌∷◌, length, map, get_or, Some, None, slice_get, refl, sym, ap, subst, ◌∙◌, arith}
 use Rattle.std.specs.List.{AllByRecursion, range_with_len, flat_map}
-use Rattle.std.proofs.lemmas.List.Elements.{All-nil}
+use Rattle.std.specs.Prelude.{All, IsSomeAnd}
+use Rattle.std.proofs.lemmas.List.Elements.{All-nil, All-weaker, recursion_from_All}
 use Rattle.std.proofs.lemmas.List.FromFn.{length-map-range_with_len}
 use Rattle.sim_base.specs.Packet.{Packet, len}
 use Rattle.traffic_apps.specs.App.{IsKind}
 use Rattle.round_core.specs.Opening.{HaveOwnKeys}
 use Rattle.traffic_apps.specs.declared.kind.AppKind.TheVariants.{UdpSink}
-use Rattle.scenario_form.specs.declared.scenario.Link.{Link as SLink}
-use Rattle.scenario_form.specs.declared.scenario.Queue.TheVariants.{Fifo}
 use Rattle.scenario_form.specs.declared.scenario.Scenario.{Scenario}
 use Rattle.scenario_form.specs.Limits.{IsWithinLimits}
 use Rattle.node_step.specs.declared.loads.Event.{Event}
-use Rattle.node_step.specs.declared.iface.Ends.{Ends}
-use Rattle.node_step.specs.Iface.{PlainIface}
+use Rattle.iface_step.specs.declared.words.Place.{Place}
+use Rattle.iface_step.specs.Attachment.{lan_of, least_frame, neighbours}
+use Rattle.iface_step.specs.Iface.{PlainIface}
+use Rattle.queue_discs.specs.declared.disc.DiscKind.{DiscKind}
+use Rattle.queue_discs.specs.declared.disc.DiscKind.TheVariants.{Fifo, Prio, Tbf}
+use Rattle.queue_discs.specs.Disc.{IsKind as IsDiscKind, empty}
 use Rattle.node_step.specs.LocalApp.{PlainLocalApp}
 use Rattle.node_step.specs.Node.{PlainNode}
-use Rattle.node_rules.specs.Health.{Link, IsFor, IsWellEvent, IsWellIface, IsWellNode}
-use Rattle.node_rules.specs.Worlds.{AreFirstEvents, AreWellNodes, event_of, link_of, node_at, node_or, shape_of}
+use Rattle.node_rules.specs.Health.{HasFrames, IsAttached, IsFor, IsNeighbour, IsPaced, IsWellEvent, IsWellIface, IsWellNode}
+use Rattle.node_rules.specs.Shape.{Shape, Wire, wire_of}
+use Rattle.node_rules.specs.Worlds.{AreFirstEvents, AreWellNodes, event_of, node_at, node_or, shape_of}
 use Rattle.node_rules.proofs.OpeningLaws.{opens}
 use Rattle.sim_world.specs.declared.apps.Installed.{Installed}
 use Rattle.sim_world.specs.declared.ends.End.{End}
-use Rattle.sim_world.specs.Ends.{IsEnd, ends_of, iface_of}
+use Rattle.sim_world.specs.declared.ends.Medium.{Medium}
+use Rattle.sim_world.specs.declared.ends.Medium.TheVariants as medium
+use Rattle.sim_world.specs.declared.networks.Network.{Network}
+use Rattle.sim_world.specs.Networks.{IsNetwork}
+use Rattle.sim_world.specs.Ends.{IsEnd, IsOn, ends_of}
+use Rattle.sim_world.specs.Lans as lans
+use Rattle.sim_world.specs.Ifaces.{Around, attachment, iface_of}
 use Rattle.sim_world.specs.Apps.{local_app}
 use Rattle.sim_world.specs.Ticks.{tick_count}
 use Rattle.sim_world.specs.Opening.{OpensRuns}
-use Rattle.sim_world.specs.World.{id, ends_in, apps_in, node_in, ticks_in, world_of}
-use Rattle.sim_world.proofs.EndLaws.{all_ends_at}
-use Rattle.sim_world.proofs.AppLaws.{kinds_in, starts_in}
+use Rattle.sim_world.specs.World.{around_in, id, ends_in, apps_in, node_in, ticks_in, world_of}
+use Rattle.sim_world.proofs.EndLimits.{all_ends_at}
+use Rattle.sim_world.proofs.AppLaws.{kinds_in, none_wait, starts_in}
 use Rattle.sim_world.proofs.TickLaws.{IsTick, IsFirstTick, all_weaker, first_ticks_are, own_first_ticks}
-use Rattle.sim_world.proofs.WiringLaws.{IsPlaced, placed}
+use Rattle.sim_world.proofs.WiringLaws.{IsLinked, IsPlaced, Leads, placed}
+use Rattle.sim_world.proofs.LanLaws.{IsFace, others_on}
 
 -- ---- look-ups
 
@@ -67,70 +78,123 @@ length-image f (x ∷ xs) = ap suc (length-image f xs)
 abbrev nodes_of : Scenario → List PlainNode
 nodes_of s = map (node_in s) (range_with_len 0 s.nodes)
 
+abbrev shape_in : Scenario → Shape
+shape_in s = shape_of (length s.lans) (nodes_of s)
+
+abbrev face_wire : PlainIface → Wire
+face_wire face = wire_of face.at
+
 node_is : (s : Scenario) (n : ℕ) → n < s.nodes → node_at (nodes_of s) n ≡ node_in s n
 node_is s n lt = ap (node_or n) (found_at (node_in s) 0 s.nodes n lt) ∙ ap (node_in s) (let z : 0 + n ≡ n = omega arith in z)
 
 nodes_long : (s : Scenario) → length (nodes_of s) ≡ s.nodes
 nodes_long s = length-map-range_with_len (node_in s) 0 s.nodes
 
-iface_count : (s : Scenario) (n : ℕ) → n < s.nodes → length ((shape_of (nodes_of s)).links n) ≡ length (ends_in s n)
+iface_count : (s : Scenario) (n : ℕ) → n < s.nodes → length ((shape_in s).wires n) ≡ length (ends_in s n)
 iface_count s n lt =
-    ap (λ (node : PlainNode). length (map link_of node.ifaces)) (node_is s n lt)
-    ∙ length-image link_of (node_in s n).ifaces ∙ length-image iface_of (ends_in s n)
+    ap (λ (node : PlainNode). length (map face_wire node.ifaces)) (node_is s n lt)
+    ∙ length-image face_wire (node_in s n).ifaces ∙ length-image (iface_of (around_in s)) (ends_in s n)
 
-app_count : (s : Scenario) (n : ℕ) → n < s.nodes → (shape_of (nodes_of s)).apps n ≡ length (apps_in s n)
+app_count : (s : Scenario) (n : ℕ) → n < s.nodes → (shape_in s).apps n ≡ length (apps_in s n)
 app_count s n lt = ap (λ (node : PlainNode). length node.apps) (node_is s n lt) ∙ length-image local_app (apps_in s n)
 
 -- ---- interfaces
 
-no_link : SLink
-no_link = record {
-  a = id 0;
-  b = id 0;
-  a_addr = 0;
-  b_addr = 0;
-  prefix = 0;
-  rate_bps = record { 0 = 0 };
-  delay_ns = record { 0 = 0 };
-  mtu = 0;
-  cost = 0;
-  queue = Fifo;
-  limit = 0;
-  tbf_bps = None;
-  tbf_burst = None;
-  pcap = false;
-}
+no_network : Network
+no_network = record { number = 0; prefix = 0; mtu = 0; rate = record { 0 = 0 }; delay = record { 0 = 0 }; disc = Fifo 0; captured = false }
 
 no_end : End
-no_end = record { ends = record { node = id 0; iface = 0; peer = id 0; peer_iface = 0 }; addr = 0; peer_addr = 0; link = no_link }
+no_end = record { place = record { node = id 0; iface = 0 }; addr = 0; network = no_network; medium = medium.OnLan 0 }
 
-placed_iface : (s : Scenario) (n i : ℕ) (e : End) → IsEnd e → IsPlaced s.nodes (ends_of s.links) n i e → IsWellIface (shape_of (nodes_of s)) n i (link_of (iface_of e)) (iface_of e)
-placed_iface s n i e is at =
-    let below : e.ends.peer.0 < s.nodes = at.peer in
-    let count : length ((shape_of (nodes_of s)).links e.ends.peer.0) ≡ length (ends_in s e.ends.peer.0) = iface_count s e.ends.peer.0 below in
-    let leads : e.ends.peer_iface < length (ends_in s e.ends.peer.0) = at.peer_iface in
+-- what an interface of a node is attached to
+wire_at : (around : Around) (P : Wire → Type 0) (ends : List End) (i : ℕ) → i < length ends → ((d : End) → P (face_wire (iface_of around (get_or ends i d))))
+    → IsSomeAnd (slice_get (map face_wire (map (iface_of around) ends)) i) P
+wire_at around P [] i lt h = absurd (omega (arith, lt))
+wire_at around P (e ∷ ends) zero lt h = h e
+wire_at around P (e ∷ ends) (suc i) lt h = wire_at around P ends i (omega (arith, lt)) h
+
+there : (s : Scenario) (P : Wire → Type 0) (n i : ℕ) → n < s.nodes → i < length (ends_in s n) → ((d : End) → P (face_wire (iface_of (around_in s) (get_or (ends_in s n) i d))))
+    → IsSomeAnd (slice_get ((shape_in s).wires n) i) P
+there s P n i below lt h =
+    subst (λ (node : PlainNode). IsSomeAnd (slice_get (map face_wire node.ifaces) i) P) (sym (node_is s n below)) (wire_at (around_in s) P (ends_in s n) i lt h)
+
+linked_wire : (around : Around) (e : End) (m : Medium) → IsLinked m → lan_of (attachment around e m) ≡ None
+linked_wire around e (medium.Link peer) h = refl
+linked_wire around e (medium.OnLan lan) h = absurd h
+
+-- links lead to links
+peer_well : (s : Scenario) (peer : Place) → Leads s.nodes (ends_of s.links s.lans) (medium.Link peer) → IsNeighbour (shape_in s) None peer
+peer_well s peer leads =
+    let below : peer.node.0 < s.nodes = leads.0 in
     let long : length (nodes_of s) ≡ s.nodes = nodes_long s in
     record {
-      ends = ap (λ m. let x : Ends = record { node = record { 0 = m }; iface = e.ends.iface; peer = e.ends.peer; peer_iface = e.ends.peer_iface } in x) at.node
-          ∙ ap (λ j. let x : Ends = record { node = record { 0 = n }; iface = j; peer = e.ends.peer; peer_iface = e.ends.peer_iface } in x) at.iface;
-      peer = omega (arith, below, long);
-      peer_iface = omega (arith, leads, count);
-      delay = refl;
-      device = (is.some_rate, is.rate, is.delay);
-      frames = All-nil (λ (frame : Packet). 2 ≤ len frame);
+      known = omega (arith, below, long);
+      same = there s (λ w. w.lan ≡ None) peer.node.0 peer.iface below leads.1
+          (λ d. let e : End = get_or (ends_in s peer.node.0) peer.iface d in linked_wire (around_in s) e e.medium (leads.2 d));
     }
 
-well_iface : (s : Scenario) → IsWithinLimits s → (n i : ℕ) (link : Link) (face : PlainIface) → slice_get (map link_of (node_in s n).ifaces) i ≡ Some link
-    → slice_get (node_in s n).ifaces i ≡ Some face → IsWellIface (shape_of (nodes_of s)) n i link face
-well_iface s limits n i link face there here =
-    let at : (i < length (ends_in s n)) × ((d : End) → face ≡ iface_of (get_or (ends_in s n) i d)) = image_at iface_of (ends_in s n) i face here in
-    let is_link : link ≡ link_of face = same_image link_of (node_in s n).ifaces i face link here there in
+-- LANs lead to the other members
+member_well : (s : Scenario) (lan : ℕ) (place : Place) → IsFace s.nodes (ends_of s.links s.lans) lan place → IsNeighbour (shape_in s) (Some lan) place
+member_well s lan place is =
+    let below : place.node.0 < s.nodes = is.node in
+    let long : length (nodes_of s) ≡ s.nodes = nodes_long s in
+    record {
+      known = omega (arith, below, long);
+      same = there s (λ w. w.lan ≡ Some lan) place.node.0 place.iface below is.iface
+          (λ d. let e : End = get_or (ends_in s place.node.0) place.iface d in ap (λ m. lan_of (attachment (around_in s) e m)) (is.medium d));
+    }
+
+abbrev reaches : Scenario → End → Medium → Type 0
+reaches s e m = AllByRecursion (IsNeighbour (shape_in s) (lan_of (attachment (around_in s) e m))) (neighbours (attachment (around_in s) e m))
+
+neighbours_well : (s : Scenario) → IsWithinLimits s → (e : End) (m : Medium) → Leads s.nodes (ends_of s.links s.lans) m → IsOn (length s.lans) m → reaches s e m
+neighbours_well s limits e (medium.Link peer) leads on = (peer_well s peer leads, tt)
+neighbours_well s limits e (medium.OnLan lan) leads on =
+    let ends : List End = ends_of s.links s.lans in
+    let others : List Place = lans.others e.place.node (get_or (around_in s).members lan []) in
+    recursion_from_All (IsNeighbour (shape_in s) (Some lan)) others
+    (All-weaker (IsFace s.nodes ends lan) (IsNeighbour (shape_in s) (Some lan)) (member_well s lan) others
+    (others_on s.nodes (length s.lans) lan e.place.node ends (placed s.nodes s.links s.lans limits.links) on))
+
+device_well : (around : Around) (e : End) (m : Medium) → IsNetwork e.network → IsAttached (attachment around e m)
+device_well around e (medium.Link peer) is = (is.some_rate, is.rate, is.delay)
+device_well around e (medium.OnLan lan) is = (is.some_rate, is.rate, is.delay, tt)
+
+paced_well : (kind : DiscKind) → IsDiscKind kind → IsPaced (empty kind).bucket
+paced_well (Fifo limit) is = tt
+paced_well (Prio limit) is = tt
+paced_well (Tbf limit rate burst) is = is.0
+
+no_frame : (kind : DiscKind) (least : ℕ) → HasFrames least (empty kind)
+no_frame (Fifo limit) least = let none : All (λ (frame : Packet). least ≤ len frame) [] = All-nil (λ (frame : Packet). least ≤ len frame) in (none, none, none)
+no_frame (Prio limit) least = let none : All (λ (frame : Packet). least ≤ len frame) [] = All-nil (λ (frame : Packet). least ≤ len frame) in (none, none, none)
+no_frame (Tbf limit rate burst) least = let none : All (λ (frame : Packet). least ≤ len frame) [] = All-nil (λ (frame : Packet). least ≤ len frame) in (none, none, none)
+
+same_place : (a b : Place) → a.node.0 ≡ b.node.0 → a.iface ≡ b.iface → a ≡ b
+same_place a b node iface = λ i. record { node = record { 0 = node i }; iface = iface i }
+
+placed_iface : (s : Scenario) → IsWithinLimits s → (n i : ℕ) (e : End) → IsEnd (length s.lans) e → IsPlaced s.nodes (ends_of s.links s.lans) n i e
+    → IsWellIface (shape_in s) n i (face_wire (iface_of (around_in s) e)) (iface_of (around_in s) e)
+placed_iface s limits n i e is at = record {
+  place = same_place e.place (record { node = record { 0 = n }; iface = i }) at.node at.iface;
+  attached = refl;
+  neighbours = neighbours_well s limits e e.medium at.leads is.on;
+  device = device_well (around_in s) e e.medium is.network;
+  paced = paced_well e.network.disc is.network.disc;
+  frames = no_frame e.network.disc (least_frame (attachment (around_in s) e e.medium));
+}
+
+well_iface : (s : Scenario) → IsWithinLimits s → (n i : ℕ) (wire : Wire) (face : PlainIface) → slice_get (map face_wire (node_in s n).ifaces) i ≡ Some wire
+    → slice_get (node_in s n).ifaces i ≡ Some face → IsWellIface (shape_in s) n i wire face
+well_iface s limits n i wire face there here =
+    let at : (i < length (ends_in s n)) × ((d : End) → face ≡ iface_of (around_in s) (get_or (ends_in s n) i d)) = image_at (iface_of (around_in s)) (ends_in s n) i face here in
+    let is_wire : wire ≡ face_wire face = same_image face_wire (node_in s n).ifaces i face wire here there in
     let e : End = get_or (ends_in s n) i no_end in
-    let is_face : face ≡ iface_of e = at.1 no_end in
-    let well : IsWellIface (shape_of (nodes_of s)) n i (link_of (iface_of e)) (iface_of e) =
-    placed_iface s n i e (all_ends_at s.nodes n s.links limits.links i no_end at.0) ((placed s.nodes s.links limits.links).each n i no_end at.0) in
-    subst (λ l. IsWellIface (shape_of (nodes_of s)) n i l face) (sym is_link)
-    (subst (λ f. IsWellIface (shape_of (nodes_of s)) n i (link_of f) f) (sym is_face) well)
+    let is_face : face ≡ iface_of (around_in s) e = at.1 no_end in
+    let well : IsWellIface (shape_in s) n i (face_wire (iface_of (around_in s) e)) (iface_of (around_in s) e) =
+    placed_iface s limits n i e (all_ends_at s.nodes n s.links s.lans limits.links limits.lans i no_end at.0) ((placed s.nodes s.links s.lans limits.links).each n i no_end at.0) in
+    subst (λ l. IsWellIface (shape_in s) n i l face) (sym is_wire)
+    (subst (λ (f : PlainIface). IsWellIface (shape_in s) n i (face_wire f) f) (sym is_face) well)
 
 -- ---- applications
 
@@ -144,20 +208,21 @@ well_app s limits n i a here =
 
 -- ---- nodes
 
-node_well : (s : Scenario) → IsWithinLimits s → (n : ℕ) → n < s.nodes → IsWellNode (shape_of (nodes_of s)) n (node_in s n)
+node_well : (s : Scenario) → IsWithinLimits s → (n : ℕ) → n < s.nodes → IsWellNode (shape_in s) n (node_in s n)
 node_well s limits n lt = record {
   number = refl;
-  ifaces = length-image iface_of (ends_in s n) ∙ sym (iface_count s n lt);
+  ifaces = length-image (iface_of (around_in s)) (ends_in s n) ∙ sym (iface_count s n lt);
   apps = length-image local_app (apps_in s n) ∙ sym (app_count s n lt);
-  each_iface = λ i link face there here.
-      well_iface s limits n i link face (ap (λ (node : PlainNode). slice_get (map link_of node.ifaces) i) (sym (node_is s n lt)) ∙ there) here;
+  each_iface = λ i wire face there here.
+      well_iface s limits n i wire face (ap (λ (node : PlainNode). slice_get (map face_wire node.ifaces) i) (sym (node_is s n lt)) ∙ there) here;
   each_app = λ i a here. well_app s limits n i a here;
+  waits = none_wait (apps_in s n);
 }
 
-pub nodes_well : (s : Scenario) → IsWithinLimits s → AreWellNodes (nodes_of s)
+pub nodes_well : (s : Scenario) → IsWithinLimits s → AreWellNodes (length s.lans) (nodes_of s)
 nodes_well s limits n node here =
     let at : (n < s.nodes) × (node ≡ node_in s (0 + n)) = made_at (node_in s) 0 s.nodes n node here in
-    subst (IsWellNode (shape_of (nodes_of s)) n) (sym (at.1 ∙ ap (node_in s) (let z : 0 + n ≡ n = omega arith in z))) (node_well s limits n at.0)
+    subst (IsWellNode (shape_in s) n) (sym (at.1 ∙ ap (node_in s) (let z : 0 + n ≡ n = omega arith in z))) (node_well s limits n at.0)
 
 -- ---- first events
 
@@ -167,18 +232,18 @@ first_of s = flat_map (ticks_in s) (range_with_len 0 s.nodes)
 ticks : (s : Scenario) → IsWithinLimits s → AllByRecursion (IsFirstTick 0 s.nodes (λ n. length (apps_in s n)) (λ n. tick_count (apps_in s n))) (first_of s)
 ticks s limits = first_ticks_are (apps_in s) 0 s.nodes s.nodes (omega arith) (λ n. starts_in s.nodes n s.apps limits.apps)
 
-well_tick : (s : Scenario) (e : Event Packet) → IsFirstTick 0 s.nodes (λ n. length (apps_in s n)) (λ n. tick_count (apps_in s n)) e → IsWellEvent (shape_of (nodes_of s)) (event_of e)
+well_tick : (s : Scenario) (e : Event Packet) → IsFirstTick 0 s.nodes (λ n. length (apps_in s n)) (λ n. tick_count (apps_in s n)) e → IsWellEvent (shape_in s) (event_of e)
 well_tick s e is =
     let n : ℕ = is.n in
     let tick : IsTick n (length (apps_in s n)) 0 (tick_count (apps_in s n)) e = is.tick in
     let node : e.key.node.0 ≡ n = tick.node in
     let below : n < s.nodes = is.below_n in
     let there : tick.app < length (apps_in s n) = tick.there in
-    let count : (shape_of (nodes_of s)).apps n ≡ length (apps_in s n) = app_count s n below in
+    let count : (shape_in s).apps n ≡ length (apps_in s n) = app_count s n below in
     let long : length (nodes_of s) ≡ s.nodes = nodes_long s in
     record {
       known = omega (arith, node, below, long);
-      load = subst (IsFor (shape_of (nodes_of s)) e.key.node.0) (sym tick.load) (subst (λ m. tick.app < (shape_of (nodes_of s)).apps m) (sym node) (let x : tick.app < (shape_of (nodes_of s)).apps n = omega (arith, there, count) in x));
+      load = subst (IsFor (shape_in s) e.key.node.0) (sym tick.load) (subst (λ m. tick.app < (shape_in s).apps m) (sym node) (let x : tick.app < (shape_in s).apps n = omega (arith, there, count) in x));
     }
 
 counted_tick : (s : Scenario) (e : Event Packet) → IsFirstTick 0 s.nodes (λ n. length (apps_in s n)) (λ n. tick_count (apps_in s n)) e
@@ -190,9 +255,9 @@ counted_tick s e is =
     let node : node_at (nodes_of s) n ≡ node_in s n = node_is s n is.below_n in
     subst (λ m. e.key.count < (node_at (nodes_of s) m).scheduled) (sym by) (subst (λ (x : PlainNode). e.key.count < x.scheduled) (sym node) tick.high_count)
 
-events_well : (s : Scenario) → IsWithinLimits s → AllByRecursion (λ e. IsWellEvent (shape_of (nodes_of s)) (event_of e)) (first_of s)
+events_well : (s : Scenario) → IsWithinLimits s → AllByRecursion (λ e. IsWellEvent (shape_in s) (event_of e)) (first_of s)
 events_well s limits =
-    all_weaker (IsFirstTick 0 s.nodes (λ n. length (apps_in s n)) (λ n. tick_count (apps_in s n))) (λ e. IsWellEvent (shape_of (nodes_of s)) (event_of e)) (well_tick s) (first_of s) (ticks s limits)
+    all_weaker (IsFirstTick 0 s.nodes (λ n. length (apps_in s n)) (λ n. tick_count (apps_in s n))) (λ e. IsWellEvent (shape_in s) (event_of e)) (well_tick s) (first_of s) (ticks s limits)
 
 events_counted : (s : Scenario) → IsWithinLimits s → AllByRecursion (λ e. e.key.count < (node_at (nodes_of s) e.key.by.0).scheduled) (first_of s)
 events_counted s limits =
@@ -203,7 +268,7 @@ own_keys s limits = own_first_ticks (apps_in s) 0 s.nodes s.nodes (omega arith) 
 
 -- ---- the whole
 
-first_events : (s : Scenario) → IsWithinLimits s → AreFirstEvents (nodes_of s) (first_of s)
+first_events : (s : Scenario) → IsWithinLimits s → AreFirstEvents (length s.lans) (nodes_of s) (first_of s)
 first_events s limits = record {
   well = events_well s limits;
   own_keys = own_keys s limits;
@@ -212,4 +277,4 @@ first_events s limits = record {
 
 pub opens_runs : (s : Scenario) → IsWithinLimits s → OpensRuns (world_of s)
 unfolding world_of
-opens_runs s limits = opens s.events_per_node (nodes_of s) (first_of s) (first_events s limits) (nodes_well s limits)
+opens_runs s limits = opens s.events_per_node (length s.lans) (nodes_of s) (first_of s) (first_events s limits) (nodes_well s limits)

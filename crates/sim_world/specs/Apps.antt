@@ -2,11 +2,11 @@
 use Rattle.std.specs.Prelude.{ℕ, ◌+◌, ◌%◌, ◌^◌, ◌≤◌, Bool, true, false, if◌then◌else◌, List, [], ◌∷◌, Option, None, Some, unwrap_or, IfSome}
 use Rattle.std.specs.Ordering.{nat_cmp}
 use Rattle.std.specs.BTreeMap.{insert_entry}
-use Rattle.sim_base.specs.declared.key.NodeId.{NodeId}
 use Rattle.traffic_apps.specs.declared.kind.AppKind.{AppKind}
 use Rattle.traffic_apps.specs.declared.kind.AppKind.TheVariants as does
 use Rattle.traffic_apps.specs.declared.kind.Schedule.{Schedule}
-use Rattle.traffic_apps.specs.Counts.{none_counted}
+use Rattle.traffic_apps.specs.App.{idle, on_off}
+use Rattle.tcp_flow.specs.Conns.{PlainConns, listens, no_conns}
 use Rattle.udp_icmp.specs.Ports.{PlainPorts}
 use Rattle.scenario_form.specs.declared.scenario.App.{App}
 use Rattle.scenario_form.specs.declared.scenario.Kind.{Kind}
@@ -20,8 +20,8 @@ abbrev pub listed_from : ℕ → List App → List Listed
 listed_from number [] = []
 listed_from number (a ∷ apps) = record { number = number; app = a } ∷ listed_from (number + 1) apps
 
-abbrev pub node_of : Listed → NodeId
-node_of l = l.app.node
+abbrev pub node_of : Listed → ℕ
+node_of l = l.app.node.0
 
 -- ---- what an application does
 
@@ -34,6 +34,12 @@ dst_of a = unwrap_or a.dst 0
 abbrev pub port_of : App → ℕ
 port_of a = unwrap_or a.port 0
 
+-- one that is on and off in turn, with the rate and the times that it names
+abbrev pub on_off_of : App → AppKind
+on_off_of a =
+    on_off (dst_of a) (port_of a) a.size a.count a.priority (unwrap_or a.rate_bps (record { 0 = 1 })) (unwrap_or a.on_ns (record { 0 = 0 }))
+    (unwrap_or a.off_ns (record { 0 = 0 }))
+
 -- what an application of a kind does, if that is built
 abbrev pub kind_of : Kind → App → Option AppKind
 kind_of UdpSend a = Some (does.UdpSend (dst_of a) (port_of a) (schedule_of a))
@@ -41,9 +47,9 @@ kind_of UdpSink a = Some does.UdpSink
 kind_of UdpEchoClient a = Some (does.UdpEchoClient (dst_of a) (port_of a) (schedule_of a))
 kind_of UdpEchoServer a = Some does.UdpEchoServer
 kind_of Ping a = Some (does.Ping (dst_of a) (schedule_of a))
-kind_of TcpSink a = None
-kind_of OnOff a = None
-kind_of TcpBulk a = None
+kind_of TcpSink a = Some does.TcpSink
+kind_of OnOff a = Some (on_off_of a)
+kind_of TcpBulk a = Some (does.TcpBulk (dst_of a) (port_of a) (unwrap_or a.bytes 0) a.mss)
 
 -- ---- ports
 
@@ -88,7 +94,7 @@ installed_from taken (l ∷ more) =
 
 -- an application that has sent and got nothing
 abbrev pub local_app : Installed → PlainLocalApp
-local_app i = record { app = record { number = i.number; kind = i.kind; counts = none_counted }; port = i.port }
+local_app i = record { app = idle i.number i.kind; port = i.port }
 
 abbrev pub is_ping : AppKind → Bool
 is_ping (does.Ping dst schedule) = true
@@ -96,10 +102,28 @@ is_ping (does.UdpSend dst port schedule) = false
 is_ping does.UdpSink = false
 is_ping (does.UdpEchoClient dst port schedule) = false
 is_ping does.UdpEchoServer = false
+is_ping (does.OnOff dst port schedule on off) = false
+is_ping (does.TcpBulk dst port bytes mss) = false
+is_ping does.TcpSink = false
+
+abbrev pub is_udp : AppKind → Bool
+is_udp (does.UdpSend dst port schedule) = true
+is_udp does.UdpSink = true
+is_udp (does.UdpEchoClient dst port schedule) = true
+is_udp does.UdpEchoServer = true
+is_udp (does.OnOff dst port schedule on off) = true
+is_udp (does.TcpBulk dst port bytes mss) = false
+is_udp does.TcpSink = false
+is_udp (does.Ping dst schedule) = false
+
+-- what takes connections at its port
+abbrev pub is_listener : AppKind → Bool
+is_listener does.TcpSink = true
+is_listener other = false
 
 -- an application is found at its port, by its place at the node; a `ping` by its number
 abbrev pub with_port : List (ℕ × ℕ) → Installed → ℕ → List (ℕ × ℕ)
-with_port udp i place = if is_ping i.kind then udp else insert_entry nat_cmp udp i.port place
+with_port udp i place = if is_udp i.kind then insert_entry nat_cmp udp i.port place else udp
 
 abbrev pub with_ping : List (ℕ × ℕ) → Installed → ℕ → List (ℕ × ℕ)
 with_ping pings i place = if is_ping i.kind then insert_entry nat_cmp pings (i.number % 2 ^ 16) place else pings
@@ -115,6 +139,22 @@ pings_from place pings (i ∷ more) = pings_from (place + 1) (with_ping pings i 
 abbrev pub ports_of : List Installed → PlainPorts
 ports_of apps = record { udp = udp_from 0 [] apps; pings = pings_from 0 [] apps }
 
+abbrev pub with_listener : PlainConns → Installed → ℕ → PlainConns
+with_listener conns i place = if is_listener i.kind then listens place i.port conns else conns
+
+abbrev pub conns_from : ℕ → PlainConns → List Installed → PlainConns
+conns_from place conns [] = conns
+conns_from place conns (i ∷ more) = conns_from (place + 1) (with_listener conns i place) more
+
+-- a node has no connection at first, and applications that take connections
+abbrev pub conns_of : List Installed → PlainConns
+conns_of apps = conns_from 0 no_conns apps
+
+-- `on-off` sends at least one byte
+abbrev pub HasBytes : Kind → ℕ → Type 0
+HasBytes OnOff size = 1 ≤ size
+HasBytes _ size = Unit {0}
+
 -- an application whose numbers are within the limits
 pub record IsWithin (a : App) : Type 0 where
   pub port : IfSome a.port (λ port. port ≤ 49152)
@@ -122,6 +162,13 @@ pub record IsWithin (a : App) : Type 0 where
   pub count : a.count ≤ 1000000000
   pub some_interval : 1 ≤ a.interval_ns.0
   pub interval : a.interval_ns.0 ≤ 1000000000000
+  pub some_bytes : HasBytes a.kind a.size
+  pub rate_bps : IfSome a.rate_bps (λ rate. (1 ≤ rate.0) × (rate.0 ≤ 1000000000000))
+  pub on_ns : IfSome a.on_ns (λ on. on.0 ≤ 1000000000000)
+  pub off_ns : IfSome a.off_ns (λ off. off.0 ≤ 1000000000000)
+  pub bytes : IfSome a.bytes (λ bytes. bytes ≤ 1073741824)
+  pub least_mss : 64 ≤ a.mss
+  pub greatest_mss : a.mss ≤ 9000
 
 abbrev pub IsListed : Listed → Type 0
 IsListed l = IsWithin l.app

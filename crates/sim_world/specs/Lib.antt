@@ -1,6 +1,10 @@
 pub mod NotBuilt
 pub mod Grouping
+pub mod Networks
 pub mod Ends
+pub mod Lans
+pub mod Losses
+pub mod Ifaces
 pub mod Routing
 pub mod Apps
 pub mod Ticks

@@ -1,33 +1,16 @@
 -- What of the scenario language no run is built for yet.
-use Rattle.std.specs.Prelude.{ℕ, ◌+◌, ◌≤◌, min, fold, Bool, true, false, not, ◌||◌, ◌==◌, nat_lt, List, ◌++◌, map, length, is_some}
+use Rattle.std.specs.Prelude.{ℕ, ◌+◌, ◌≤◌, min, fold, Bool, true, false, ◌||◌, nat_lt, List, ◌++◌, map, is_some}
 use Rattle.std.specs.List.{list_any}
 use Rattle.scenario_form.specs.declared.scenario.App.{App}
 use Rattle.scenario_form.specs.declared.scenario.Kind.{Kind}
 use Rattle.scenario_form.specs.declared.scenario.Kind.TheVariants.{UdpSend, UdpEchoClient, UdpSink, UdpEchoServer, TcpSink, OnOff, Ping, TcpBulk}
-use Rattle.scenario_form.specs.declared.scenario.Queue.{Queue}
-use Rattle.scenario_form.specs.declared.scenario.Queue.TheVariants.{Fifo, Prio, Tbf}
 use Rattle.scenario_form.specs.declared.scenario.Routing.{Routing}
 use Rattle.scenario_form.specs.declared.scenario.Routing.TheVariants.{Static, Auto}
 use Rattle.scenario_form.specs.declared.scenario.Scenario.{Scenario}
 
-abbrev pub is_fifo : Queue → Bool
-is_fifo Fifo = true
-is_fifo Prio = false
-is_fifo Tbf = false
-
 abbrev pub is_auto : Routing → Bool
 is_auto Static = false
 is_auto Auto = true
-
-abbrev pub is_kind_built : Kind → Bool
-is_kind_built UdpSend = true
-is_kind_built UdpEchoClient = true
-is_kind_built UdpSink = true
-is_kind_built UdpEchoServer = true
-is_kind_built Ping = true
-is_kind_built TcpSink = false
-is_kind_built OnOff = false
-is_kind_built TcpBulk = false
 
 -- the longest packet that an application's own sending makes: its payload behind 28 bytes of IPv4 and UDP or ICMP
 -- headers, or its segment behind 40 bytes of IPv4 and TCP headers
@@ -58,15 +41,9 @@ least mtus = fold (λ m mtu. min m mtu) 18446744073709551615 mtus
 abbrev pub exceeds : List ℕ → ℕ → Bool
 exceeds mtus size = list_any (λ mtu. nat_lt mtu size) mtus
 
--- There is a LAN; a queue isn't `fifo`; the text trace is asked for; there is a loss; an application is of a kind that isn't
--- built; routes are found by cost; an application's packet exceeds some MTU; or groups stand
+-- Routes are found by cost; an application's packet exceeds some MTU; or groups stand
 abbrev pub not_built : Scenario → Bool
 not_built s =
-    not (length s.lans == 0)
-    || (list_any (λ l. not (is_fifo l.queue)) s.links
-    || (s.ascii
-    || (not (length s.losses == 0)
-    || (list_any (λ a. not (is_kind_built a.kind)) s.apps
-    || (is_auto s.routing
+    is_auto s.routing
     || (list_any (λ a. exceeds (mtus s) (longest_packet a.kind a)) s.apps
-    || is_some s.groups))))))
+    || is_some s.groups)

@@ -1,9 +1,8 @@
 -- Where a node sends packets: to its own networks, and by the listed routes.
 use Rattle.std.specs.Prelude.{ℕ, zero, suc, ◌==◌, List, [], ◌∷◌, ◌++◌, map, fold, filter, find, filter_map, Option, None, Some, option_map}
 use Rattle.std.specs.Ordering.{nat_cmp}
-use Rattle.std.specs.BTreeMap.{BTreeMap, get, insert_entry}
+use Rattle.std.specs.BTreeMap.{insert_entry}
 use Rattle.std.specs.BTreeSet.{insert_key}
-use Rattle.sim_base.specs.declared.key.NodeId.{NodeId}
 use Rattle.ipv4_core.specs.declared.routes.Table.{Table}
 use Rattle.ipv4_core.specs.declared.routes.Way.{Way}
 use Rattle.ipv4_core.specs.Routes.{PlainTable, network}
@@ -12,35 +11,40 @@ use Rattle.scenario_form.specs.declared.scenario.Route.{Route}
 use Rattle.sim_world.specs.declared.ends.End.{End}
 use Rattle.sim_world.specs.declared.routing.Entry.{Entry}
 
-abbrev pub node_of : Route → NodeId
-node_of r = r.node
+abbrev pub node_of : Route → ℕ
+node_of r = r.node.0
 
 -- a way out of an interface, through a neighbour or to whoever has the address
 abbrev pub way_of : End → Option ℕ → Way
-way_of e via = record { iface = e.ends.iface; addr = e.addr; mtu = e.link.mtu; via = via }
+way_of e via = record { iface = e.place.iface; addr = e.addr; mtu = e.network.mtu; via = via }
 
 -- the network that an interface is on
 abbrev pub connected : End → Entry
-connected e = record { prefix = e.link.prefix; dest = network e.link.prefix e.addr; way = way_of e None }
+connected e = record { prefix = e.network.prefix; dest = network e.network.prefix e.addr; way = way_of e None }
 
--- the interface whose link leads to an address
-abbrev pub toward : ℕ → List End → Option End
-toward via ends = find (λ e. e.peer_addr == via) ends
+-- the first interface that has an address
+abbrev pub holder_of : List End → ℕ → Option End
+holder_of ends addr = find (λ e. e.addr == addr) ends
+
+-- the first interface on a network, by the network's number
+abbrev pub first_on : List End → ℕ → Option End
+first_on ends number = find (λ e. e.network.number == number) ends
+
+-- the interface on the network of another
+abbrev pub toward : (ℕ → Option End) → Option End → Option End
+toward on None = None
+toward on (Some there) = on there.network.number
 
 abbrev pub listed_by : Route → End → Entry
 listed_by r e = record { prefix = r.prefix; dest = r.dest; way = way_of e (Some r.via) }
 
--- a listed route leaves by the interface whose link leads to its next hop
-abbrev pub listed : List End → Route → Option Entry
-listed ends r = option_map (listed_by r) (toward r.via ends)
-
--- the same by a map of the interfaces that lead to each address
-abbrev pub listed_in : BTreeMap ℕ End → Route → Option Entry
-listed_in by_peer r = option_map (listed_by r) (get nat_cmp by_peer r.via)
+-- a listed route leaves by the interface that is on the network of its next hop
+abbrev pub listed : (ℕ → Option End) → (ℕ → Option End) → Route → Option Entry
+listed holder on r = option_map (listed_by r) (toward on (holder r.via))
 
 -- the routes of a node with these interfaces: its networks, and then the listed ones
-abbrev pub entries_of : List End → List Route → List Entry
-entries_of ends routes = map connected ends ++ filter_map (listed ends) routes
+abbrev pub entries_of : (ℕ → Option End) → List End → List Route → List Entry
+entries_of holder ends routes = map connected ends ++ filter_map (listed holder (first_on ends)) routes
 
 -- one more way to a network
 abbrev pub with_way : List (ℕ × Way) → Entry → List (ℕ × Way)
@@ -76,5 +80,5 @@ with_own own e = insert_key nat_cmp own e.addr
 abbrev pub own_of : List End → List ℕ
 own_of ends = fold with_own [] ends
 
-abbrev pub ip_of : List End → List Route → PlainIp
-ip_of ends routes = record { routes = tables_of (entries_of ends routes); own = own_of ends }
+abbrev pub ip_of : (ℕ → Option End) → List End → List Route → PlainIp
+ip_of holder ends routes = record { routes = tables_of (entries_of holder ends routes); own = own_of ends }

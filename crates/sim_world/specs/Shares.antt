@@ -2,7 +2,9 @@
 use Rattle.std.specs.Prelude.{ℕ, ◌≡◌, ◌≢◌, ◌+◌, ◌<◌, ◌≤◌, ◌⊎◌, ◌==◌, Bool, List, [], ◌∷◌, ◌++◌, Vec, length, map, filter, replicate, Some, slice_get, slice_index, slice_index_or, slice_set}
 use Rattle.std.specs.Global.{Global}
 use Rattle.sim_base.specs.Packet.{Packet}
+use Rattle.csma_dev.specs.declared.bus.Bus.{Bus}
 use Rattle.node_step.specs.declared.loads.Event.{Event}
+use Rattle.node_step.specs.Firing.{free}
 use Rattle.node_step.specs.Loads.{plain_event}
 use Rattle.node_step.specs.Node.{PlainNode}
 use Rattle.node_step.specs.Part.{PlainPart}
@@ -59,13 +61,14 @@ pub record KeepNodes (group_of : List ℕ) (events left : List (Event Packet)) (
 abbrev pub part_seen : {P : Type 0} → (P → Packet) → PlainPart × Vec (Event P) Global → PlainPart × List (Event Packet)
 part_seen plain made = (made.0, map (plain_event plain) made.1.items)
 
--- a share as a part with its first events
-abbrev pub as_part : ℕ → PlainShare → PlainPart × List (Event Packet)
-as_part limit s = (record { places = s.places; nodes = s.nodes; limit = limit }, s.first)
+-- a share as a part with these buses, and its first events
+abbrev pub as_part : List Bus → ℕ → PlainShare → PlainPart × List (Event Packet)
+as_part lans limit s = (record { places = s.places; nodes = s.nodes; lans = lans; limit = limit }, s.first)
 
--- a part has the nodes of a group, each at its place, and the first events for them
+-- a part has the nodes of a group, each at its place, all buses, and the first events for its nodes
 pub record IsPartOf (w : PlainWorld) (group_of : List ℕ) (group : ℕ) (made : PlainPart × List (Event Packet)) : Type 0 where
   pub placed : IsPlaced group_of w.nodes 0 group made.0.places made.0.nodes
+  pub lans : made.0.lans ≡ replicate w.lans free
   pub limit : made.0.limit ≡ w.limit
   pub first : made.1 ≡ filter (is_of group_of group) w.first
 

@@ -4,7 +4,7 @@ use Rattle.sim_base.specs.declared.key.NodeId.{NodeId}
 use Rattle.sim_base.specs.declared.time.Time.{Time}
 use Rattle.sim_base.specs.Packet.{Packet}
 use Rattle.traffic_apps.specs.declared.kind.AppKind.{AppKind}
-use Rattle.traffic_apps.specs.declared.kind.AppKind.TheVariants.{UdpSend, UdpSink, UdpEchoClient, UdpEchoServer, Ping}
+use Rattle.traffic_apps.specs.declared.kind.AppKind.TheVariants.{UdpSend, UdpSink, UdpEchoClient, UdpEchoServer, OnOff, TcpBulk, TcpSink, Ping}
 use Rattle.node_step.specs.declared.loads.Event.{Event}
 use Rattle.node_step.specs.declared.loads.Load.TheVariants.{Tick}
 use Rattle.sim_world.specs.declared.apps.Installed.{Installed}
@@ -13,9 +13,12 @@ use Rattle.sim_world.specs.declared.apps.Installed.{Installed}
 abbrev pub is_active : AppKind → Bool
 is_active (UdpSend dst port schedule) = true
 is_active (UdpEchoClient dst port schedule) = true
+is_active (OnOff dst port schedule on off) = true
 is_active (Ping dst schedule) = true
 is_active UdpSink = false
+is_active (TcpBulk dst port bytes mss) = true
 is_active UdpEchoServer = false
+is_active TcpSink = false
 
 -- a tick that a node schedules for itself before the run: for the application at this place, at its start
 abbrev pub tick : NodeId → ℕ → ℕ → Time → Event Packet

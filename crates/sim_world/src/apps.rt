@@ -4,14 +4,16 @@ ghost use Rattle.std.specs.Prelude.{◌≡◌, ◌+◌, ◌<◌, ◌≤◌, [], 
 ghost use Rattle.traffic_apps.specs.App.{IsKind};
 ghost use Rattle.scenario_form.specs.Limits.{IsApp};
 ghost use Rattle.sim_world.specs.Grouping.{grouped};
-ghost use Rattle.sim_world.specs.Apps.{IsWithin, IsListed, listed_from, node_of, kind_of, schedule_of, port_of, ports_taken, own_port, installed_as, installed_from, local_app, is_ping, udp_from, pings_from, ports_of};
+ghost use Rattle.sim_world.specs.Apps.{IsWithin, IsListed, listed_from, node_of, kind_of, on_off_of, schedule_of, port_of, ports_taken, own_port, installed_as, installed_from, local_app, is_ping, is_udp, is_listener, udp_from, pings_from, ports_of, conns_from, conns_of};
+ghost use Rattle.tcp_flow.specs.Conns.{no_conns};
 
 use crate::grouping::{no_items, put};
 use node_step::LocalApp;
 use scenario_form::{App, Kind};
-use sim_base::{NoMemory, Sequence, Time};
+use sim_base::{NoMemory, Rate, Sequence, Time};
 use std::alloc::Global;
 use std::collections::BTreeMap;
+use tcp_flow::Conns;
 use traffic_apps::{AppKind, Schedule};
 use udp_icmp::Ports;
 
@@ -51,7 +53,7 @@ pub fn apps_by_node(
             number: number as u32,
             app: *app,
         };
-        put(&mut listed, app.node, item)?;
+        put(&mut listed, app.node.0, item)?;
     }
     Ok(listed)
 }
@@ -121,8 +123,34 @@ fn kind_of(app: &App) -> Option<AppKind>
             dst,
             schedule: schedule_of(app),
         }),
-        Kind::TcpSink | Kind::OnOff | Kind::TcpBulk => None,
+        Kind::OnOff => Some(on_off_of(app)),
+        Kind::TcpSink => Some(AppKind::TcpSink),
+        Kind::TcpBulk => Some(AppKind::TcpBulk {
+            dst,
+            port,
+            bytes: app.bytes.unwrap_or(0),
+            mss: app.mss as u32,
+        }),
     }
+}
+
+/// One that is on and off in turn, with the rate and the times that it names.
+fn on_off_of(app: &App) -> AppKind
+    requires app { IsWithin app.now }
+    requires bytes { 1 ≤ app.now.size }
+    ensures value { result ≡ on_off_of app.now }
+    ensures within { IsKind result }
+{
+    AppKind::on_off(
+        app.dst.unwrap_or(0),
+        port_of(app),
+        app.size as u32,
+        app.count,
+        app.priority,
+        app.rate_bps.unwrap_or(Rate(1)),
+        app.on_ns.unwrap_or(Time(0)),
+        app.off_ns.unwrap_or(Time(0)),
+    )
 }
 
 fn schedule_of(app: &App) -> Schedule
@@ -204,7 +232,7 @@ fn udp_ports(alloc: Global, apps: &[Installed]) -> Result<BTreeMap<u16, u32>, No
 {
     let mut udp = BTreeMap::new(alloc);
     for (place, app) in apps.iter().enumerate() {
-        if !is_ping(app.kind) {
+        if is_udp(app.kind) {
             udp.insert(app.port, place as u32)?;
         }
     }
@@ -230,6 +258,39 @@ fn is_ping(kind: AppKind) -> bool
 {
     match kind {
         AppKind::Ping { .. } => true,
+        _ => false,
+    }
+}
+
+fn is_udp(kind: AppKind) -> bool
+    ensures { result ≡ is_udp kind }
+{
+    match kind {
+        AppKind::TcpBulk { .. } | AppKind::TcpSink | AppKind::Ping { .. } => false,
+        _ => true,
+    }
+}
+
+/// The connections before there is any: the place of the application that takes connections at each port.
+pub fn conns(alloc: Global, apps: &[Installed]) -> Result<Conns, NoMemory>
+    requires { length apps.now ≤ 4000 }
+    ensures { IfOk result (λ conns. conns ≡ conns_of apps.now) }
+{
+    let mut conns = Conns::make(alloc);
+    for (place, app) in apps.iter().enumerate() {
+        if is_listener(app.kind) {
+            conns.listen(place as u32, app.port)?;
+        }
+    }
+    Ok(conns)
+}
+
+/// Whether an application takes connections.
+fn is_listener(kind: AppKind) -> bool
+    ensures { result ≡ is_listener kind }
+{
+    match kind {
+        AppKind::TcpSink => true,
         _ => false,
     }
 }

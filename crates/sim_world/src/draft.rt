@@ -6,18 +6,20 @@ ghost use Rattle.layer_words.specs.Acts.{Appends};
 ghost use Rattle.node_step.specs.Loads.{plain_event};
 ghost use Rattle.traffic_apps.specs.App.{IsKind};
 ghost use Rattle.sim_world.specs.Ends.{IsEnd};
-ghost use Rattle.sim_world.specs.Plan.{IsPlan, planned_node, planned_ticks};
+ghost use Rattle.sim_world.specs.Losses.{IsLoss};
+ghost use Rattle.sim_world.specs.Plan.{IsPlan, planned_around, planned_node, planned_ticks};
 ghost use Rattle.sim_world.specs.World.{new_node};
 
-use crate::apps::{Installed, install, local_apps, ports};
-use crate::ends::{End, ifaces};
+use crate::apps::{Installed, conns, install, local_apps, ports};
+use crate::ends::End;
+use crate::ifaces::ifaces;
 use crate::plan::Plan;
 use crate::routing::ip;
 use crate::ticks::{schedule_ticks, tick_count};
 use node_step::{Event, Node};
 use pkt_face::Pkt;
-use scenario_form::Route;
-use sim_base::{NoMemory, NodeId};
+use scenario_form::{Loss, Route};
+use sim_base::{NoMemory, NodeId, Random};
 use std::alloc::Global;
 
 /// The nodes so far, and the first ticks of their applications.
@@ -28,11 +30,19 @@ pub struct Draft<P: Pkt> {
 }
 
 impl<P: Pkt> Draft<P> {
-    /// The nodes of a plan, in the order of their numbers.
-    pub fn of(alloc: Global, nodes: u32, plan: &Plan) -> Result<Draft<P>, NoMemory>
+    /// The nodes of a plan, in the order of their numbers, whose frames are told where the text trace is asked for.
+    pub fn of(
+        alloc: Global,
+        told: bool,
+        seed: u64,
+        nodes: u32,
+        losses: &[Loss],
+        plan: &Plan,
+    ) -> Result<Draft<P>, NoMemory>
+        requires losses { All IsLoss losses.now }
         requires plan { IsPlan plan.now }
         requires nodes { nodes ≡ length plan.now.ends.items }
-        ensures nodes { IfOk result (λ draft. draft.nodes.items ≡ map (planned_node plan.now) (range_with_len 0 nodes)) }
+        ensures nodes { IfOk result (λ draft. draft.nodes.items ≡ map (planned_node told seed losses.now plan.now) (range_with_len 0 nodes)) }
         ensures first { IfOk result (λ draft. map (plain_event P.plain) draft.first.items ≡ flat_map (planned_ticks plan.now) (range_with_len 0 nodes)) }
     {
         let mut draft = Draft {
@@ -40,23 +50,36 @@ impl<P: Pkt> Draft<P> {
             first: Vec::new(alloc),
         };
         for number in 0..nodes {
-            draft.add_node(alloc, number, plan)?;
+            draft.add_node(alloc, told, seed, number, losses, plan)?;
         }
         Ok(draft)
     }
 
     /// Adds a node of a plan behind the others, and the first ticks of its applications.
-    fn add_node(&mut self, alloc: Global, number: u32, plan: &Plan) -> Result<(), NoMemory>
+    fn add_node(
+        &mut self,
+        alloc: Global,
+        told: bool,
+        seed: u64,
+        number: u32,
+        losses: &[Loss],
+        plan: &Plan,
+    ) -> Result<(), NoMemory>
+        requires losses { All IsLoss losses.now }
         requires plan { IsPlan plan.now }
         requires there { number < length plan.now.ends.items }
-        ensures nodes { OnOk result (self.new.nodes.items ≡ self.old.nodes.items ++ planned_node plan.now number ∷ []) }
+        ensures nodes { OnOk result (self.new.nodes.items ≡ self.old.nodes.items ++ planned_node told seed losses.now plan.now number ∷ []) }
         ensures first { OnOk result (Appends (plain_event P.plain) self.old.first.items self.new.first.items (planned_ticks plan.now number)) }
     {
         let here = number as usize;
         let apps = install(alloc, plan.apps[here].as_slice())?;
         let node = new_node(
             alloc,
+            told,
+            seed,
             NodeId(number),
+            losses,
+            plan,
             plan.ends[here].as_slice(),
             plan.routes[here].as_slice(),
             apps.as_slice(),
@@ -70,20 +93,28 @@ impl<P: Pkt> Draft<P> {
 /// A node that has done nothing yet, but has scheduled the first ticks of its applications.
 fn new_node<P: Pkt>(
     alloc: Global,
+    told: bool,
+    seed: u64,
     number: NodeId,
+    losses: &[Loss],
+    plan: &Plan,
     ends: &[End],
     routes: &[Route],
     apps: &[Installed],
 ) -> Result<Node<P>, NoMemory>
-    requires ends { All IsEnd ends.now }
+    requires losses { All IsLoss losses.now }
+    requires ends { All (IsEnd (length plan.now.members.items)) ends.now }
     requires routes { All (λ r. r.prefix ≤ 30) routes.now }
     requires kinds { All (λ i. IsKind i.kind) apps.now }
     requires few { length apps.now ≤ 4000 }
-    ensures { IfOk result (λ node. node ≡ new_node number ends.now routes.now apps.now) }
+    ensures { IfOk result (λ node. node ≡ new_node seed (planned_around told losses.now plan.now) number ends.now routes.now apps.now) }
 {
-    let ifaces = ifaces(alloc, ends)?;
-    let ip = ip(alloc, ends, routes)?;
+    let ifaces = ifaces(alloc, told, losses, plan, ends)?;
+    let ip = ip(alloc, &plan.holders, ends, routes)?;
     let ports = ports(alloc, apps)?;
+    let conns = conns(alloc, apps)?;
     let local = local_apps(alloc, apps)?;
-    Ok(Node::make(number, tick_count(apps), ifaces, ip, ports, local))
+    let ticks = tick_count(apps);
+    let random = Random::make(seed, number);
+    Ok(Node::make(number, ticks, random, ifaces, ip, ports, conns, local))
 }

@@ -1,110 +1,150 @@
-//! The ends of links: the interfaces of nodes.
+//! The interfaces of nodes: the ends of links, and faces on LANs.
 
-ghost use Rattle.std.specs.Prelude.{◌≡◌, ℕ, ◌<◌, ◌≤◌, List, [], length, map, slice_index_or, All, IfOk, OnOk};
-ghost use Rattle.scenario_form.specs.Limits.{IsLink};
+ghost use Rattle.std.specs.Prelude.{◌≡◌, ℕ, ◌+◌, ◌<◌, ◌≤◌, List, [], fold, length, slice_index_or, All, IfOk, OnOk};
+ghost use Rattle.std.specs.List.{enumerate_from, zip};
+ghost use Rattle.scenario_form.specs.Limits.{IsLan, IsLink};
 ghost use Rattle.sim_world.specs.Grouping.{grouped};
-ghost use Rattle.sim_world.specs.Ends.{IsEnd, node_of, with_link, ends_of, iface_of};
+ghost use Rattle.sim_world.specs.Ends.{node_of, with_face, with_link, ends_of};
+ghost use Rattle.sim_world.specs.Networks.{HasLinkNumbers, link_network};
 ghost use Rattle.sim_world.specs.declared.ends.End.{End};
 
 use crate::grouping::{no_items, put};
-use node_step::{Ends, Iface};
-use p2p_dev::P2p;
-use pkt_face::Pkt;
-use queue_discs::{Disc, DiscKind};
-use scenario_form::Link;
+use crate::networks::{Network, lan_network, link_network};
+use iface_step::Place;
+use scenario_form::{Lan, Link};
 use sim_base::{NoMemory, NodeId, Sequence};
 use std::alloc::Global;
 
-/// One end of a link: an interface of a node, with its address and that of the other end.
+/// What an interface is attached to: a link, at whose other end `peer` is, or the LAN of a number.
 #[derive(Clone, Copy, Debug, PartialEq, Eq)]
-pub struct End {
-    pub ends: Ends,
-    pub addr: u32,
-    pub peer_addr: u32,
-    pub link: Link,
+pub enum Medium {
+    Link { peer: Place },
+    OnLan { lan: u32 },
 }
 
-/// The ends of links at each node, in the links' order.
+/// An interface of a node: one end of a link, or a face on a LAN.
+#[derive(Clone, Copy, Debug, PartialEq, Eq)]
+pub struct End {
+    pub place: Place,
+    pub addr: u32,
+    pub network: Network,
+    pub medium: Medium,
+}
+
+/// The interfaces of each node: its links, and then its LANs, each in the scenario's order.
 pub fn ends_by_node(
     alloc: Global,
     nodes: u32,
     links: &[Link],
+    lans: &[Lan],
 ) -> Result<Vec<Sequence<End>>, NoMemory>
     requires links { All (IsLink nodes) links.now }
+    requires lans { All (IsLan nodes) lans.now }
+    requires few_links { length links.now ≤ 4000 }
+    requires few_lans { length lans.now ≤ 200 }
+    ensures { IfOk result (λ ends. ends.items ≡ grouped node_of nodes (ends_of links.now lans.now)) }
+{
+    let mut ends = ends_of_links(alloc, nodes, links)?;
+    let before = links.len() as u32;
+    for (number, lan) in lans.iter().enumerate() {
+        let network = lan_network(before + number as u32, lan);
+        add_lan(&mut ends, network, number as u32, lan)?;
+    }
+    Ok(ends)
+}
+
+/// The ends of links at each node.
+fn ends_of_links(alloc: Global, nodes: u32, links: &[Link]) -> Result<Vec<Sequence<End>>, NoMemory>
+    requires links { All (IsLink nodes) links.now }
     requires few { length links.now ≤ 4000 }
-    ensures { IfOk result (λ ends. ends.items ≡ grouped node_of nodes (ends_of links.now)) }
+    ensures { IfOk result (λ ends. ends.items ≡ grouped node_of nodes (fold with_link [] (enumerate_from 0 links.now))) }
 {
     let mut ends = no_items(alloc, nodes)?;
-    for link in links {
-        add_link(&mut ends, link)?;
+    for (number, link) in links.iter().enumerate() {
+        add_link(&mut ends, number as u32, link)?;
     }
     Ok(ends)
 }
 
 /// Adds the two ends of a link, each with the next number of its node.
-fn add_link(ends: &mut Vec<Sequence<End>>, link: &Link) -> Result<(), NoMemory>
+fn add_link(ends: &mut Vec<Sequence<End>>, number: u32, link: &Link) -> Result<(), NoMemory>
+    requires numbers { HasLinkNumbers link.now }
     requires a { link.now.a.0 < length ends.old.items }
     requires b { link.now.b.0 < length ends.old.items }
-    requires few { All (λ there. length there ≤ 8000) ends.old.items }
-    ensures { (nodes : ℕ) (before : List End) → ends.old.items ≡ grouped node_of nodes before → OnOk result (ends.new.items ≡ grouped node_of nodes (with_link before link.now)) }
+    requires few { All (λ there. length there ≤ 48000) ends.old.items }
+    ensures { (nodes : ℕ) (before : List End) → ends.old.items ≡ grouped node_of nodes before → OnOk result (ends.new.items ≡ grouped node_of nodes (with_link before (number, link.now))) }
 {
-    let a_iface = next_iface(ends, link.a);
-    let b_iface = next_iface(ends, link.b);
+    let network = link_network(number, link);
+    let place_a = next_place(ends, link.a);
+    let place_b = next_place(ends, link.b);
     let at_a = End {
-        ends: Ends {
-            node: link.a,
-            iface: a_iface,
-            peer: link.b,
-            peer_iface: b_iface,
-        },
+        place: place_a,
         addr: link.a_addr,
-        peer_addr: link.b_addr,
-        link: *link,
+        network,
+        medium: Medium::Link { peer: place_b },
     };
     let at_b = End {
-        ends: Ends {
-            node: link.b,
-            iface: b_iface,
-            peer: link.a,
-            peer_iface: a_iface,
-        },
+        place: place_b,
         addr: link.b_addr,
-        peer_addr: link.a_addr,
-        link: *link,
+        network,
+        medium: Medium::Link { peer: place_a },
     };
-    put(ends, link.a, at_a)?;
-    put(ends, link.b, at_b)
+    put(ends, link.a.0, at_a)?;
+    put(ends, link.b.0, at_b)
 }
 
-/// The number of the next interface of a node.
-fn next_iface(ends: &[Sequence<End>], node: NodeId) -> u32
-    requires there { node.0 < length ends.now }
-    requires few { All (λ there. length there ≤ 8000) ends.now }
-    ensures { result ≡ length (slice_index_or ends.now node.0 []) }
+/// Adds a face on a LAN for each member, in their order.
+fn add_lan(
+    ends: &mut Vec<Sequence<End>>,
+    network: Network,
+    number: u32,
+    lan: &Lan,
+) -> Result<(), NoMemory>
+    requires members { All (λ member. member.0 < length ends.old.items) lan.now.members }
+    requires addrs { length lan.now.addrs ≡ length lan.now.members }
+    requires few_members { length lan.now.members ≤ 200 }
+    requires few { All (λ there. length there ≤ 47800) ends.old.items }
+    ensures { (nodes : ℕ) (before : List End) → ends.old.items ≡ grouped node_of nodes before → OnOk result (ends.new.items ≡ grouped node_of nodes (fold (with_face network number) before (zip lan.now.members lan.now.addrs))) }
 {
-    ends[node.0 as usize].len() as u32
-}
-
-/// The interfaces of a node.
-pub fn ifaces<P: Pkt>(alloc: Global, ends: &[End]) -> Result<Vec<Iface<P>>, NoMemory>
-    requires { All IsEnd ends.now }
-    ensures { IfOk result (λ ifaces. ifaces.items ≡ map iface_of ends.now) }
-{
-    let mut ifaces = Vec::with_capacity(alloc, ends.len())?;
-    for end in ends {
-        ifaces.push(iface(alloc, end))?;
+    let members = lan.members.as_slice();
+    let addrs = lan.addrs.as_slice();
+    for (i, member) in members.iter().enumerate() {
+        add_face(ends, network, number, *member, addrs[i])?;
     }
-    Ok(ifaces)
+    Ok(())
 }
 
-fn iface<P: Pkt>(alloc: Global, end: &End) -> Iface<P>
-    requires { IsEnd end.now }
-    ensures { result ≡ iface_of end.now }
+/// Adds the face of one member, with the next number of its node.
+fn add_face(
+    ends: &mut Vec<Sequence<End>>,
+    network: Network,
+    lan: u32,
+    node: NodeId,
+    addr: u32,
+) -> Result<(), NoMemory>
+    requires there { node.0 < length ends.old.items }
+    requires few { All (λ there. length there ≤ 48000) ends.old.items }
+    ensures face { (nodes : ℕ) (before : List End) → ends.old.items ≡ grouped node_of nodes before → OnOk result (ends.new.items ≡ grouped node_of nodes (with_face network lan before (node, addr))) }
+    ensures count { OnOk result (length ends.new.items ≡ length ends.old.items) }
+    ensures few { (most : ℕ) → All (λ there. length there ≤ most) ends.old.items → OnOk result (All (λ there. length there ≤ most + 1) ends.new.items) }
 {
-    let link = &end.link;
-    let device = P2p::make(link.rate_bps, link.delay_ns, link.pcap);
-    let kind = DiscKind::Fifo {
-        limit: link.limit as u32,
+    let face = End {
+        place: next_place(ends, node),
+        addr,
+        network,
+        medium: Medium::OnLan { lan },
     };
-    Iface::make(end.ends, device, Disc::make(alloc, kind))
+    put(ends, node.0, face)
+}
+
+/// The next interface of a node.
+fn next_place(ends: &[Sequence<End>], node: NodeId) -> Place
+    requires there { node.0 < length ends.now }
+    requires few { All (λ there. length there ≤ 48000) ends.now }
+    ensures { result ≡ record { node = node; iface = length (slice_index_or ends.now node.0 []) } }
+{
+    Place {
+        node,
+        iface: ends[node.0 as usize].len() as u32,
+    }
 }

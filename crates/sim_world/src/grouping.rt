@@ -1,28 +1,28 @@
-//! What nodes have, grouped by the node in one pass.
+//! What stands under each number, as at each node, in one pass.
 
 ghost use Rattle.std.specs.Prelude.{◌≡◌, ◌<◌, [], replicate, length, IfOk, OnOk};
 ghost use Rattle.sim_world.specs.Grouping.{with_item};
 
-use sim_base::{NoMemory, NodeId, Sequence};
+use sim_base::{NoMemory, Sequence};
 use std::alloc::Global;
 
-/// A list for each node, in which nothing stands yet.
+/// A list for each of so many numbers, in which nothing stands yet.
 #[tactic(auto, using(std::proofs::lemmas::List::replicate_more))]
-pub fn no_items<T: Drop>(alloc: Global, nodes: u32) -> Result<Vec<Sequence<T>>, NoMemory>
-    ensures { IfOk result (λ groups. groups.items ≡ replicate nodes []) }
+pub fn no_items<T: Drop>(alloc: Global, count: u32) -> Result<Vec<Sequence<T>>, NoMemory>
+    ensures { IfOk result (λ groups. groups.items ≡ replicate count []) }
 {
-    let mut groups = Vec::with_capacity(alloc, nodes as usize)?;
-    'each: while groups.len() < nodes as usize {
+    let mut groups = Vec::with_capacity(alloc, count as usize)?;
+    'each: while groups.len() < count as usize {
         groups.push(Sequence::new(alloc))?;
     }
     Ok(groups)
 }
 
-/// Puts an item behind those of its node.
-pub fn put<T: Drop>(groups: &mut Vec<Sequence<T>>, node: NodeId, item: T) -> Result<(), NoMemory>
-    requires { node.0 < length groups.old.items }
-    ensures { OnOk result (groups.new.items ≡ with_item node.0 item groups.old.items) }
+/// Puts an item behind those under a number.
+pub fn put<T: Drop>(groups: &mut Vec<Sequence<T>>, number: u32, item: T) -> Result<(), NoMemory>
+    requires { number < length groups.old.items }
+    ensures { OnOk result (groups.new.items ≡ with_item number item groups.old.items) }
 {
-    groups[node.0 as usize].push(item)?;
+    groups[number as usize].push(item)?;
     Ok(())
 }

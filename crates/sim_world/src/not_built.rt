@@ -3,9 +3,9 @@
 ghost use Rattle.std.specs.Prelude.{◌≡◌, ◌<◌, ◌^◌, ℕ, not, All, map, nat_lt};
 ghost use Rattle.std.specs.List.{list_any};
 ghost use Rattle.scenario_form.specs.Limits.{IsWithinLimits};
-ghost use Rattle.sim_world.specs.NotBuilt.{is_fifo, is_auto, is_kind_built, longest_packet, HasSizes, mtus, least, exceeds, not_built};
+ghost use Rattle.sim_world.specs.NotBuilt.{is_auto, longest_packet, HasSizes, mtus, least, exceeds, not_built};
 
-use scenario_form::{App, Kind, Lan, Link, Queue, Routing, Scenario};
+use scenario_form::{App, Kind, Lan, Link, Routing, Scenario};
 
 /// The headers before a payload: IPv4, and UDP or ICMP.
 const DATAGRAM_HEADERS: u64 = 28;
@@ -13,41 +13,12 @@ const DATAGRAM_HEADERS: u64 = 28;
 /// The headers before a segment: IPv4 and TCP.
 const SEGMENT_HEADERS: u64 = 40;
 
-/// Whether a run is built for a scenario: it has links with `fifo` queues alone, listed routes, the applications of UDP
-/// and `ping`, no packet that is too long for some link, and neither losses, groups nor a text trace.
+/// Whether a run is built for a scenario: it has listed routes, no packet that is too long for some link or LAN, and no groups.
 pub fn is_built(scenario: &Scenario) -> bool
     requires { IsWithinLimits scenario.now }
     ensures { result ≡ not (not_built scenario.now) }
 {
-    scenario.lans.is_empty()
-        && have_fifo(scenario.links.as_slice())
-        && !scenario.ascii
-        && scenario.losses.is_empty()
-        && are_built(scenario.apps.as_slice())
-        && is_static(scenario.routing)
-        && fit(scenario)
-        && scenario.groups.is_none()
-}
-
-/// Whether no queue is of another kind than `fifo`.
-fn have_fifo(links: &[Link]) -> bool
-    ensures { result ≡ not (list_any (λ l. not (is_fifo l.queue)) links.now) }
-{
-    for link in links {
-        if !is_fifo(link.queue) {
-            return false;
-        }
-    }
-    true
-}
-
-fn is_fifo(queue: Queue) -> bool
-    ensures { result ≡ is_fifo queue }
-{
-    match queue {
-        Queue::Fifo => true,
-        Queue::Prio | Queue::Tbf => false,
-    }
+    is_static(scenario.routing) && fit(scenario) && scenario.groups.is_none()
 }
 
 fn is_static(routing: Routing) -> bool
@@ -56,28 +27,6 @@ fn is_static(routing: Routing) -> bool
     match routing {
         Routing::Static => true,
         Routing::Auto => false,
-    }
-}
-
-/// Whether each application is of a kind that is built.
-fn are_built(apps: &[App]) -> bool
-    ensures { result ≡ not (list_any (λ a. not (is_kind_built a.kind)) apps.now) }
-{
-    for app in apps {
-        if !is_kind_built(app.kind) {
-            return false;
-        }
-    }
-    true
-}
-
-fn is_kind_built(kind: Kind) -> bool
-    ensures { result ≡ is_kind_built kind }
-{
-    match kind {
-        Kind::UdpSend | Kind::UdpEchoClient | Kind::UdpSink | Kind::UdpEchoServer | Kind::Ping =>
-            true,
-        Kind::TcpSink | Kind::OnOff | Kind::TcpBulk => false,
     }
 }
 

@@ -5,32 +5,45 @@ ghost use Rattle.scenario_form.specs.Limits.{IsWithinLimits};
 
 use crate::apps::{Listed, apps_by_node};
 use crate::ends::{End, ends_by_node};
-use crate::routing::routes_by_node;
+use crate::lans::{Member, members_by_lan};
+use crate::routing::{holders, routes_by_node};
 use scenario_form::{Route, Scenario};
 use sim_base::{NoMemory, Sequence};
 use std::alloc::Global;
+use std::collections::BTreeMap;
 
-/// The ends of links, the listed routes and the applications of each node.
+/// The interfaces, the listed routes and the applications of each node; the members of each LAN; and who has each address.
 #[derive(Drop)]
 pub struct Plan {
     pub ends: Vec<Sequence<End>>,
     pub routes: Vec<Sequence<Route>>,
     pub apps: Vec<Sequence<Listed>>,
+    pub members: Vec<Sequence<Member>>,
+    pub holders: BTreeMap<u32, End>,
 }
 
 impl Plan {
     ghost use Rattle.sim_world.specs.Plan.{IsPlan, IsPlanOf};
 
-    /// The plan of a scenario, in one pass over its links, routes and applications.
+    /// The plan of a scenario, in a few passes over its links, LANs, routes and applications.
     pub fn of(alloc: Global, scenario: &Scenario) -> Result<Plan, NoMemory>
         requires { IsWithinLimits scenario.now }
         ensures plan { IfOk result (IsPlanOf scenario.now) }
         ensures within { IfOk result IsPlan }
     {
         let nodes = scenario.nodes;
-        let ends = ends_by_node(alloc, nodes, scenario.links.as_slice())?;
+        let lans = scenario.lans.as_slice();
+        let ends = ends_by_node(alloc, nodes, scenario.links.as_slice(), lans)?;
         let routes = routes_by_node(alloc, nodes, scenario.routes.as_slice())?;
         let apps = apps_by_node(alloc, nodes, scenario.apps.as_slice())?;
-        Ok(Plan { ends, routes, apps })
+        let members = members_by_lan(alloc, lans.len() as u32, ends.as_slice())?;
+        let holders = holders(alloc, ends.as_slice())?;
+        Ok(Plan {
+            ends,
+            routes,
+            apps,
+            members,
+            holders,
+        })
     }
 }

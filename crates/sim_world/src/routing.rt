@@ -1,14 +1,15 @@
 //! Where a node sends packets: to its own networks, and by the listed routes.
 
-ghost use Rattle.std.specs.Prelude.{◌≡◌, ℕ, ◌≤◌, [], ◌++◌, map, All, IfOk, IfSome, OnOk};
+ghost use Rattle.std.specs.Prelude.{◌≡◌, ℕ, ◌≤◌, List, [], ◌++◌, map, option_map, All, IfOk, IfSome, OnOk};
 ghost use Rattle.std.specs.List.{filter_map};
+ghost use Rattle.sim_world.specs.declared.ends.End.{End};
 ghost use Rattle.std.specs.Ordering.{nat_cmp};
 ghost use Rattle.std.specs.BTreeMap.{get};
 ghost use Rattle.ipv4_core.specs.Routes.{network};
 ghost use Rattle.scenario_form.specs.Limits.{IsRoute};
-ghost use Rattle.sim_world.specs.Grouping.{grouped};
-ghost use Rattle.sim_world.specs.Ends.{IsEnd};
-ghost use Rattle.sim_world.specs.Routing.{node_of, connected, listed_by, listed_in, toward, entries_of, ways_of, seen, with_table, tables_of, own_of, ip_of};
+ghost use Rattle.sim_world.specs.Grouping.{grouped, joined};
+ghost use Rattle.sim_world.specs.Networks.{IsNetwork};
+ghost use Rattle.sim_world.specs.Routing.{node_of, connected, listed, listed_by, holder_of, first_on, entries_of, ways_of, seen, with_table, tables_of, own_of, ip_of};
 
 use crate::ends::End;
 use crate::grouping::{no_items, put};
@@ -40,38 +41,48 @@ pub fn routes_by_node(
 {
     let mut listed = no_items(alloc, nodes)?;
     for route in routes {
-        put(&mut listed, route.node, *route)?;
+        put(&mut listed, route.node.0, *route)?;
     }
     Ok(listed)
 }
 
 /// The routes and addresses of a node.
-pub fn ip(alloc: Global, ends: &[End], routes: &[Route]) -> Result<Ip, NoMemory>
-    requires ends { All IsEnd ends.now }
+pub fn ip(
+    alloc: Global,
+    holders: &BTreeMap<u32, End>,
+    ends: &[End],
+    routes: &[Route],
+) -> Result<Ip, NoMemory>
+    requires ends { All (λ e. IsNetwork e.network) ends.now }
     requires routes { All (λ r. r.prefix ≤ 30) routes.now }
-    ensures { IfOk result (λ ip. ip ≡ ip_of ends.now routes.now) }
+    ensures { IfOk result (λ ip. ip ≡ ip_of (get nat_cmp holders.now) ends.now routes.now) }
 {
-    let entries = entries(alloc, ends, routes)?;
+    let entries = entries(alloc, holders, ends, routes)?;
     let tables = tables(alloc, entries.as_slice())?;
     let own = own_addresses(alloc, ends)?;
     Ok(Ip::make(tables, own))
 }
 
 /// The networks that the node is on, and then its listed routes.
-fn entries(alloc: Global, ends: &[End], routes: &[Route]) -> Result<Vec<Entry>, NoMemory>
-    requires ends { All IsEnd ends.now }
+fn entries(
+    alloc: Global,
+    holders: &BTreeMap<u32, End>,
+    ends: &[End],
+    routes: &[Route],
+) -> Result<Vec<Entry>, NoMemory>
+    requires ends { All (λ e. IsNetwork e.network) ends.now }
     requires routes { All (λ r. r.prefix ≤ 30) routes.now }
-    ensures { IfOk result (λ entries. entries.items ≡ entries_of ends.now routes.now) }
+    ensures { IfOk result (λ entries. entries.items ≡ entries_of (get nat_cmp holders.now) ends.now routes.now) }
 {
-    let by_peer = ends_by_peer(alloc, ends)?;
+    let on = ends_by_network(alloc, ends)?;
     let mut entries = networks(alloc, ends)?;
-    add_listed(&mut entries, &by_peer, routes)?;
+    add_listed(&mut entries, holders, &on, routes)?;
     Ok(entries)
 }
 
 /// The networks that a node is on.
 fn networks(alloc: Global, ends: &[End]) -> Result<Vec<Entry>, NoMemory>
-    requires { All IsEnd ends.now }
+    requires { All (λ e. IsNetwork e.network) ends.now }
     ensures { IfOk result (λ entries. entries.items ≡ map connected ends.now) }
 {
     let mut entries = Vec::with_capacity(alloc, ends.len())?;
@@ -81,62 +92,98 @@ fn networks(alloc: Global, ends: &[End]) -> Result<Vec<Entry>, NoMemory>
     Ok(entries)
 }
 
-/// Puts the listed routes behind the entries, each by the interface that leads to its next hop.
+/// Puts the listed routes behind the entries, each by the interface that is on the network of its next hop.
 fn add_listed(
     entries: &mut Vec<Entry>,
-    by_peer: &BTreeMap<u32, End>,
+    holders: &BTreeMap<u32, End>,
+    on: &BTreeMap<u32, End>,
     routes: &[Route],
 ) -> Result<(), NoMemory>
-    requires ends { (addr : ℕ) → IfSome (get nat_cmp by_peer.now addr) IsEnd }
+    requires on { (number : ℕ) → IfSome (get nat_cmp on.now number) (λ e. IsNetwork e.network) }
     requires routes { All (λ r. r.prefix ≤ 30) routes.now }
-    ensures { OnOk result (entries.new.items ≡ entries.old.items ++ filter_map (listed_in by_peer.now) routes.now) }
+    ensures { OnOk result (entries.new.items ≡ entries.old.items ++ filter_map (listed (get nat_cmp holders.now) (get nat_cmp on.now)) routes.now) }
 {
     for route in routes {
-        if let Some(entry) = listed(by_peer, route) {
+        if let Some(entry) = listed(holders, on, route) {
             entries.push(entry)?;
         }
     }
     Ok(())
 }
 
-/// The first interface that leads to each address.
-fn ends_by_peer(alloc: Global, ends: &[End]) -> Result<BTreeMap<u32, End>, NoMemory>
-    ensures { IfOk result (λ by_peer. (addr : ℕ) → get nat_cmp by_peer addr ≡ toward addr ends.now) }
+/// The first of a node's interfaces on each network, by the network's number.
+fn ends_by_network(alloc: Global, ends: &[End]) -> Result<BTreeMap<u32, End>, NoMemory>
+    ensures { IfOk result (λ on. (number : ℕ) → get nat_cmp on number ≡ first_on ends.now number) }
 {
-    let mut by_peer = BTreeMap::new(alloc);
+    let mut on = BTreeMap::new(alloc);
     for end in ends {
-        if !by_peer.contains_key(&end.peer_addr) {
-            by_peer.insert(end.peer_addr, *end)?;
+        if !on.contains_key(&end.network.number) {
+            on.insert(end.network.number, *end)?;
         }
     }
-    Ok(by_peer)
+    Ok(on)
+}
+
+/// The interface that has each address.
+pub fn holders(alloc: Global, ends: &[Sequence<End>]) -> Result<BTreeMap<u32, End>, NoMemory>
+    ensures { IfOk result (λ holders. (addr : ℕ) → get nat_cmp holders addr ≡ holder_of (joined ends.now) addr) }
+{
+    let mut holders = BTreeMap::new(alloc);
+    for there in ends {
+        add_holders(&mut holders, there.as_slice())?;
+    }
+    Ok(holders)
+}
+
+/// Adds a node's interfaces, each where none before it has its address.
+fn add_holders(holders: &mut BTreeMap<u32, End>, ends: &[End]) -> Result<(), NoMemory>
+    ensures { (before : List End) → ((addr : ℕ) → get nat_cmp holders.old addr ≡ holder_of before addr) → OnOk result ((addr : ℕ) → get nat_cmp holders.new addr ≡ holder_of (before ++ ends.now) addr) }
+{
+    for end in ends {
+        if !holders.contains_key(&end.addr) {
+            holders.insert(end.addr, *end)?;
+        }
+    }
+    Ok(())
 }
 
 /// The network that an interface is on.
 fn connected(end: &End) -> Entry
-    requires { IsEnd end.now }
+    requires { IsNetwork end.now.network }
     ensures { result ≡ connected end.now }
 {
-    let prefix = end.link.prefix as u32;
+    let prefix = end.network.prefix;
     Entry {
         prefix,
         dest: network(end.addr, prefix),
         way: Way {
-            iface: end.ends.iface,
+            iface: end.place.iface,
             addr: end.addr,
-            mtu: end.link.mtu as u32,
+            mtu: end.network.mtu,
             via: None,
         },
     }
 }
 
-/// A listed route, if an interface leads to its next hop.
-fn listed(by_peer: &BTreeMap<u32, End>, route: &Route) -> Option<Entry>
-    requires ends { (addr : ℕ) → IfSome (get nat_cmp by_peer.now addr) IsEnd }
+/// A listed route, if an interface is on the network of its next hop.
+fn listed(holders: &BTreeMap<u32, End>, on: &BTreeMap<u32, End>, route: &Route) -> Option<Entry>
+    requires on { (number : ℕ) → IfSome (get nat_cmp on.now number) (λ e. IsNetwork e.network) }
     requires route { route.now.prefix ≤ 30 }
-    ensures { result ≡ listed_in by_peer.now route.now }
+    ensures { result ≡ listed (get nat_cmp holders.now) (get nat_cmp on.now) route.now }
 {
-    match by_peer.get(&route.via) {
+    match holders.get(&route.via) {
+        Some(there) => leaving(on, there.network.number, route),
+        None => None,
+    }
+}
+
+/// A listed route whose next hop is on a network, if an interface is.
+fn leaving(on: &BTreeMap<u32, End>, number: u32, route: &Route) -> Option<Entry>
+    requires on { (number : ℕ) → IfSome (get nat_cmp on.now number) (λ e. IsNetwork e.network) }
+    requires route { route.now.prefix ≤ 30 }
+    ensures { result ≡ option_map (listed_by route.now) (get nat_cmp on.now number) }
+{
+    match on.get(&number) {
         Some(end) => Some(listed_by(route, end)),
         None => None,
     }
@@ -145,16 +192,15 @@ fn listed(by_peer: &BTreeMap<u32, End>, route: &Route) -> Option<Entry>
 /// A listed route that leaves by an interface.
 fn listed_by(route: &Route, end: &End) -> Entry
     requires route { route.now.prefix ≤ 30 }
-    requires end { end.now.link.mtu ≤ 65535 }
     ensures { result ≡ listed_by route.now end.now }
 {
     Entry {
         prefix: route.prefix as u32,
         dest: route.dest,
         way: Way {
-            iface: end.ends.iface,
+            iface: end.place.iface,
             addr: end.addr,
-            mtu: end.link.mtu as u32,
+            mtu: end.network.mtu,
             via: Some(route.via),
         },
     }

@@ -10,6 +10,7 @@ ghost use Rattle.std.specs.Prelude.{◌≡◌, ◌<◌, ◌≤◌, ◌^◌, [], 
 ghost use Rattle.node_step.specs.Loads.{plain_event};
 ghost use Rattle.sim_world.specs.Shares.{HaveNodes, KeepNodes, changed, empty_share, as_part, part_seen, with_event, with_node};
 
+use csma_dev::Bus;
 use node_step::{Event, Node, Part};
 use pkt_face::Pkt;
 use sim_base::NoMemory;
@@ -27,9 +28,13 @@ pub struct Share<P: Pkt> {
 impl<P: Pkt> Model for Share<P> {
     ghost use Rattle.std.specs.Prelude.{map};
     ghost use Rattle.node_step.specs.Loads.{plain_event};
+    ghost use Rattle.std.specs.Coded.{codes};
+    ghost use Rattle.tcp_flow.specs.contracts.conn.Conn as conn;
     ghost use Rattle.sim_world.specs.Shares.{PlainShare};
 
     ghost Value = { PlainShare };
+
+    ghost coded = { Prim.hlevel (codes, conn.the_row.coded) };
 
     ghost view = { λ s. record { places = s.places.items; nodes = s.nodes.items; first = map (plain_event P.plain) s.first.items } };
 }
@@ -63,17 +68,23 @@ impl<P: Pkt> Share<P> {
         Ok(())
     }
 
-    /// The part of the network that the share is, and its first events.
-    fn part(self, alloc: Global, limit: u64) -> (Part<P>, Vec<Event<P>>)
+    /// The part of the network that the share is, with these buses, and its first events.
+    fn part(
+        self,
+        alloc: Global,
+        lans: &[Bus],
+        limit: u64,
+    ) -> Result<(Part<P>, Vec<Event<P>>), NoMemory>
         requires { limit ≤ 10 ^ 9 }
-        ensures { part_seen P.plain result ≡ (record { places = self.places; nodes = self.nodes; limit = limit }, self.first) }
+        ensures { IfOk result (λ made. part_seen P.plain made ≡ as_part lans.now limit self) }
     {
         let Share {
             places,
             nodes,
             first,
         } = self;
-        (Part::make(alloc, places, nodes, limit), first)
+        let lans = Vec::from_slice(alloc, lans)?;
+        Ok((Part::make(alloc, places, nodes, lans, limit), first))
     }
 }
 
@@ -186,19 +197,20 @@ pub fn share_events<P: Pkt>(
     Ok(())
 }
 
-/// The parts that shares are.
+/// The parts that shares are, each with these buses.
 pub fn parts_of<P: Pkt>(
     alloc: Global,
     mut shares: Vec<Share<P>>,
+    lans: &[Bus],
     limit: u64,
 ) -> Result<Vec<(Part<P>, Vec<Event<P>>)>, NoMemory>
     requires { limit ≤ 10 ^ 9 }
-    ensures { IfOk result (λ parts. map (part_seen P.plain) parts.items ≡ map (as_part limit) shares.items) }
+    ensures { IfOk result (λ parts. map (part_seen P.plain) parts.items ≡ map (as_part lans.now limit) shares.items) }
 {
     let mut parts = Vec::with_capacity(alloc, shares.len())?;
     shares.as_mut_slice().reverse();
     'shares: while let Some(share) = shares.pop() {
-        parts.push(share.part(alloc, limit))?;
+        parts.push(share.part(alloc, lans, limit)?)?;
     }
     Ok(parts)
 }

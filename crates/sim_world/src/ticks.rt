@@ -50,7 +50,11 @@ fn is_active(kind: AppKind) -> bool
     ensures { result ≡ is_active kind }
 {
     match kind {
-        AppKind::UdpSend { .. } | AppKind::UdpEchoClient { .. } | AppKind::Ping { .. } => true,
-        AppKind::UdpSink | AppKind::UdpEchoServer => false,
+        AppKind::UdpSend { .. }
+        | AppKind::UdpEchoClient { .. }
+        | AppKind::OnOff { .. }
+        | AppKind::TcpBulk { .. }
+        | AppKind::Ping { .. } => true,
+        AppKind::UdpSink | AppKind::UdpEchoServer | AppKind::TcpSink => false,
     }
 }

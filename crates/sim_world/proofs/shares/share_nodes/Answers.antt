@@ -1,6 +1,6 @@
-use Rattle.std.proofs.Common.{◌≡◌, ◌+◌, ◌<◌, ℕ, List, [], ◌∷◌, length, length-append, slice_index, sym, ap, subst, ◌∙◌, arith}
+use Rattle.std.proofs.Common.{◌≡◌, ◌+◌, ◌<◌, ℕ, [], ◌∷◌, length, length-append, slice_index, ap, subst, ◌∙◌, arith}
 use Rattle.sim_world.specs.Shares.{changed, with_node}
-use Rattle.sim_world.proofs.ShareLaws.{nodes-few, places-know, sharing-first, sharing-more}
+use Rattle.sim_world.proofs.ShareLaws.{nodes-few, places-know, sharing-more}
 use Rattle.sim_world.proofs.shares.share_nodes.Goals as goal
 
 pub give_node-requires-clause-known : goal.give_node-requires-clause-known

@@ -26,7 +26,7 @@ pub returns-in-Ok-clause-outcome : goal.returns-in-Ok-clause-outcome
 returns-in-Ok-clause-outcome g c =
     ended c.args.world c.requires.opens c.run_below.new.self
     (ran c.args.world c.stop-stop.result c.in_ok-group.group c.run_below.new.self c.stop-stop.ensures (is-group c.args.world c.in_ok-group.group c.whole-part.result.0 (map (plain_event g.P.Pkt.plain) c.whole-part.result.1.items)
-    c.in_ok-group.ensures c.whole-part.ensures.part c.whole-part.ensures.first) c.in-Ok.ensures.run)
+    c.in_ok-group.ensures c.whole-part.ensures.part c.whole-part.ensures.first) c.requires.opens c.in-Ok.ensures.run)
     c.in_ok-report-in-Ok.report c.in_ok-report-in-Ok.ensures.events c.in_ok-report-in-Ok.ensures.drops c.in_ok-report-in-Ok.ensures.apps
     c.in_ok-report-in-Ok.ensures.none.0 c.in_ok-report-in-Ok.ensures.none.1
 
@@ -34,7 +34,7 @@ pub returns-in-Ok-clause-lines : goal.returns-in-Ok-clause-lines
 returns-in-Ok-clause-lines g c =
     c.take_lines-lines.ensures.lines ∙ done-lines c.args.world c.requires.opens c.run_below.new.self
     (ran c.args.world c.stop-stop.result c.in_ok-group.group c.run_below.new.self c.stop-stop.ensures (is-group c.args.world c.in_ok-group.group c.whole-part.result.0 (map (plain_event g.P.Pkt.plain) c.whole-part.result.1.items)
-    c.in_ok-group.ensures c.whole-part.ensures.part c.whole-part.ensures.first) c.in-Ok.ensures.run)
+    c.in_ok-group.ensures c.whole-part.ensures.part c.whole-part.ensures.first) c.requires.opens c.in-Ok.ensures.run)
 
 pub returns-in-Err-Limit-clause-outcome : goal.returns-in-Err-Limit-clause-outcome
 returns-in-Err-Limit-clause-outcome g c =
