@@ -6,8 +6,7 @@ use Rattle.std.specs.List.{AllByRecursion}
 use Rattle.scenario_form.specs.declared.scenario.Scenario.{Scenario}
 use Rattle.sim_run.specs.declared.captures.Face.{Face}
 use Rattle.sim_run.specs.declared.captures.Capture.{Capture}
-use Rattle.sim_run.specs.Captures.{captures_from, captures_below, faces_of, is_of}
-use Rattle.sim_run.specs.Pieces.{AreApart}
+use Rattle.sim_run.specs.Captures.{AreApart, captures_from, captures_below, faces_of, is_of}
 
 pub all-map : {A : Type 0} (P Q : A → Type 0) → ((x : A) → P x → Q x) → (xs : List A) → AllByRecursion P xs → AllByRecursion Q xs
 all-map P Q f [] h = tt

@@ -5,8 +5,9 @@ pub mod SummaryLaws
 pub mod SavingLaws
 pub mod RunLaws
 pub mod CaptureLaws
+pub mod TraceLaws
 pub mod PieceLaws
-pub mod SavedLaws
+pub mod WrittenLaws
 pub mod NameLaws
 pub mod PlaceLaws
 pub mod RunFiles

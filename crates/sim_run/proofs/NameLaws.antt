@@ -32,7 +32,7 @@ same_parts (x ∷ xs) (y ∷ ys) u v mark low dx dy e =
     let same = same_parts xs ys u v mark low dx.1 dy.1 tail in
     (ap (λ z. z ∷ xs) head ∙ ap (λ zs. y ∷ zs) same.0, same.1)
 
-name_parts : (c : Capture) → capture_name c ≡ codes "trace-" ++ (decimal c.node.0 ++ 45 ∷ (decimal c.iface ++ 46 ∷ codes "pcap"))
+pub name_parts : (c : Capture) → capture_name c ≡ codes "trace-" ++ (decimal c.node.0 ++ 45 ∷ (decimal c.iface ++ 46 ∷ codes "pcap"))
 name_parts c = simp append_assoc
 
 pub names-differ : (c d : Capture) → HasNumbers c → HasNumbers d → is_of c.node.0 c.iface d ≡ false → capture_name d ≡ capture_name c → ⊥

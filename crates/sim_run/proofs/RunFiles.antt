@@ -5,12 +5,11 @@ use Rattle.sim_base.specs.Packet.{Packet}
 use Rattle.pkt_face.specs.declared.line.Line.{Line}
 use Rattle.outside.specs.declared.store.File.{File}
 use Rattle.outside.specs.Store.{empty_file}
-use Rattle.pcap_form.specs.Capture.{capture_head}
-use Rattle.sim_run.specs.declared.captures.Capture.{Capture}
-use Rattle.sim_run.specs.Captures.{capture_file, capture_files, capture_name, saved, saved_packet}
+use Rattle.sim_run.specs.declared.traces.Trace.{Trace}
+use Rattle.sim_run.specs.Traces.{trace_file, trace_files, trace_head, trace_name, written, written_by}
 use Rattle.sim_run.specs.Growth.{HasNewFiles}
 use Rattle.sim_run.specs.Output.{HasFiles, HasFilePrefixes, AreCut}
-use Rattle.sim_run.specs.Pieces.{with_pieces, grown_from, HasGrownFrom, AreFronts, saved_pieces, HasGrownByFronts}
+use Rattle.sim_run.specs.Pieces.{with_pieces, grown_from, HasGrownFrom, AreFronts, written_pieces, HasGrownByFronts}
 use Rattle.sim_run.proofs.PieceLaws.{grown_from-none}
 
 grown_from-behind : (files own : List File) (pieces : List (List ℕ)) → grown_from (length files) pieces (files ++ own) ≡ files ++ with_pieces pieces own
@@ -55,132 +54,132 @@ fronts-few (f ∷ fronts) (p ∷ pieces) cut = omega (arith, fronts-few fronts p
 -- ---- empty files, and their heads
 
 -- the files before their heads
-abbrev pub empty_files : List Capture → List File
-empty_files captures = map (λ c. empty_file (capture_name c)) captures
+abbrev pub empty_files : List Trace → List File
+empty_files traces = map (λ t. empty_file (trace_name t)) traces
 
 -- the heads, as pieces
-abbrev pub heads : List Capture → List (List ℕ)
-heads captures = map (λ c. capture_head c.linktype) captures
+abbrev pub heads : List Trace → List (List ℕ)
+heads traces = map trace_head traces
 
-length-empty : (captures : List Capture) → length (heads captures) ≡ length (empty_files captures)
+length-empty : (traces : List Trace) → length (heads traces) ≡ length (empty_files traces)
 length-empty [] = refl
-length-empty (c ∷ captures) = ap suc (length-empty captures)
+length-empty (t ∷ traces) = ap suc (length-empty traces)
 
-with_heads : (captures : List Capture) → with_pieces (heads captures) (empty_files captures) ≡ capture_files captures []
+with_heads : (traces : List Trace) → with_pieces (heads traces) (empty_files traces) ≡ trace_files traces []
 with_heads [] = refl
-with_heads (c ∷ captures) =
-    ap (λ (bytes : List ℕ). record { name = capture_name c; bytes = bytes } ∷ with_pieces (heads captures) (empty_files captures)) (sym (append-nil (capture_head c.linktype)))
-    ∙ ap (λ (fs : List File). capture_file [] c ∷ fs) (with_heads captures)
+with_heads (t ∷ traces) =
+    ap (λ (bytes : List ℕ). record { name = trace_name t; bytes = bytes } ∷ with_pieces (heads traces) (empty_files traces)) (sym (append-nil (trace_head t)))
+    ∙ ap (λ (fs : List File). trace_file [] t ∷ fs) (with_heads traces)
 
 -- the heads are put into the empty files
-pub with_heads-made : (before mid after : Option (List File)) (first : ℕ) (captures : List Capture) → HasNewFiles before mid first (empty_files captures)
-    → HasGrownFrom mid after first (heads captures) → HasNewFiles before after first (capture_files captures [])
-with_heads-made before mid after first captures new grown =
-    subst (λ fs. HasNewFiles before after first fs) (with_heads captures)
-    (new_files-grown before mid after first (empty_files captures) (heads captures) (omega (arith, length-empty captures)) new grown)
+pub with_heads-made : (before mid after : Option (List File)) (first : ℕ) (traces : List Trace) → HasNewFiles before mid first (empty_files traces)
+    → HasGrownFrom mid after first (heads traces) → HasNewFiles before after first (trace_files traces [])
+with_heads-made before mid after first traces new grown =
+    subst (λ fs. HasNewFiles before after first fs) (with_heads traces)
+    (new_files-grown before mid after first (empty_files traces) (heads traces) (omega (arith, length-empty traces)) new grown)
 
-empty_files_cut : (captures : List Capture) (lines : List (Line Packet)) → AreCut (empty_files captures) (capture_files captures lines)
+empty_files_cut : (traces : List Trace) (lines : List (Line Packet)) → AreCut (empty_files traces) (trace_files traces lines)
 empty_files_cut [] lines = tt
-empty_files_cut (c ∷ captures) lines = (refl, (capture_head c.linktype ++ saved c lines, refl), empty_files_cut captures lines)
+empty_files_cut (t ∷ traces) lines = (refl, (trace_head t ++ written t lines, refl), empty_files_cut traces lines)
 
-head_fronts_cut : (captures : List Capture) (lines : List (Line Packet)) (fronts : List (List ℕ)) → AreFronts fronts (heads captures)
-    → AreCut (with_pieces fronts (empty_files captures)) (capture_files captures lines)
-head_fronts_cut captures lines [] cut = empty_files_cut captures lines
+head_fronts_cut : (traces : List Trace) (lines : List (Line Packet)) (fronts : List (List ℕ)) → AreFronts fronts (heads traces)
+    → AreCut (with_pieces fronts (empty_files traces)) (trace_files traces lines)
+head_fronts_cut traces lines [] cut = empty_files_cut traces lines
 head_fronts_cut [] lines (front ∷ fronts) cut = absurd cut
-head_fronts_cut (c ∷ captures) lines (front ∷ fronts) cut =
+head_fronts_cut (t ∷ traces) lines (front ∷ fronts) cut =
     let (rest, whole) = cut.0 in (
       refl,
-      (rest ++ saved c lines, ap (λ head. head ++ saved c lines) whole ∙ append_assoc front rest (saved c lines)),
-      head_fronts_cut captures lines fronts cut.1,
+      (rest ++ written t lines, ap (λ head. head ++ written t lines) whole ∙ append_assoc front rest (written t lines)),
+      head_fronts_cut traces lines fronts cut.1,
     )
 
 -- all files were made, and no head was put
-pub empty-cut : (before after : Option (List File)) (first : ℕ) (captures : List Capture) (lines : List (Line Packet))
-    → HasNewFiles before after first (empty_files captures) → HasFilePrefixes before after (capture_files captures lines)
-empty-cut before after first captures lines new =
-    (empty_files captures, empty_files_cut captures lines, new_files-are before after first (empty_files captures) new)
+pub empty-cut : (before after : Option (List File)) (first : ℕ) (traces : List Trace) (lines : List (Line Packet))
+    → HasNewFiles before after first (empty_files traces) → HasFilePrefixes before after (trace_files traces lines)
+empty-cut before after first traces lines new =
+    (empty_files traces, empty_files_cut traces lines, new_files-are before after first (empty_files traces) new)
 
 -- some files were made, and no head was put
-pub made-cut : (before after : Option (List File)) (first : ℕ) (captures more : List Capture) (lines : List (Line Packet))
-    → HasNewFiles before after first (empty_files captures) → HasFilePrefixes before after (capture_files (captures ++ more) lines)
-made-cut before after first captures more lines new = (
-  empty_files captures,
-  first_cut captures,
-  new_files-are before after first (empty_files captures) new,
+pub made-cut : (before after : Option (List File)) (first : ℕ) (traces more : List Trace) (lines : List (Line Packet))
+    → HasNewFiles before after first (empty_files traces) → HasFilePrefixes before after (trace_files (traces ++ more) lines)
+made-cut before after first traces more lines new = (
+  empty_files traces,
+  first_cut traces,
+  new_files-are before after first (empty_files traces) new,
 )
   where
-    first_cut : (cs : List Capture) → AreCut (empty_files cs) (capture_files (cs ++ more) lines)
+    first_cut : (ts : List Trace) → AreCut (empty_files ts) (trace_files (ts ++ more) lines)
     first_cut [] = tt
-    first_cut (c ∷ cs) = (refl, (capture_head c.linktype ++ saved c lines, refl), first_cut cs)
+    first_cut (t ∷ ts) = (refl, (trace_head t ++ written t lines, refl), first_cut ts)
 
 -- the heads are put in part
-pub heads-cut : (before mid after : Option (List File)) (first : ℕ) (captures : List Capture) (lines : List (Line Packet))
-    → HasNewFiles before mid first (empty_files captures) → HasGrownByFronts mid after first (heads captures)
-    → HasFilePrefixes before after (capture_files captures lines)
-heads-cut before mid after first captures lines new partly =
+pub heads-cut : (before mid after : Option (List File)) (first : ℕ) (traces : List Trace) (lines : List (Line Packet))
+    → HasNewFiles before mid first (empty_files traces) → HasGrownByFronts mid after first (heads traces)
+    → HasFilePrefixes before after (trace_files traces lines)
+heads-cut before mid after first traces lines new partly =
     let (fronts, cut, grown) = partly in
-    let few : length fronts ≤ length (empty_files captures) = omega (arith, fronts-few fronts (heads captures) cut, length-empty captures) in (
-      with_pieces fronts (empty_files captures),
-      head_fronts_cut captures lines fronts cut,
-      new_files-are before after first _ (new_files-grown before mid after first (empty_files captures) fronts few new grown),
+    let few : length fronts ≤ length (empty_files traces) = omega (arith, fronts-few fronts (heads traces) cut, length-empty traces) in (
+      with_pieces fronts (empty_files traces),
+      head_fronts_cut traces lines fronts cut,
+      new_files-are before after first _ (new_files-grown before mid after first (empty_files traces) fronts few new grown),
     )
 
 -- ---- what lines save
 
-length-saved : (captures : List Capture) (lines others : List (Line Packet)) → length (saved_pieces captures lines) ≡ length (capture_files captures others)
-length-saved [] lines others = refl
-length-saved (c ∷ captures) lines others = ap suc (length-saved captures lines others)
+length-written : (traces : List Trace) (lines others : List (Line Packet)) → length (written_pieces traces lines) ≡ length (trace_files traces others)
+length-written [] lines others = refl
+length-written (t ∷ traces) lines others = ap suc (length-written traces lines others)
 
-with_saved : (captures : List Capture) (lines : List (Line Packet)) → with_pieces (saved_pieces captures lines) (capture_files captures []) ≡ capture_files captures lines
+with_saved : (traces : List Trace) (lines : List (Line Packet)) → with_pieces (written_pieces traces lines) (trace_files traces []) ≡ trace_files traces lines
 with_saved [] lines = refl
-with_saved (c ∷ captures) lines =
-    ap (λ (head : List ℕ). record { name = capture_name c; bytes = head ++ saved c lines } ∷ with_pieces (saved_pieces captures lines) (capture_files captures []))
-    (append-nil (capture_head c.linktype))
-    ∙ ap (λ (fs : List File). capture_file lines c ∷ fs) (with_saved captures lines)
+with_saved (t ∷ traces) lines =
+    ap (λ (head : List ℕ). record { name = trace_name t; bytes = head ++ written t lines } ∷ with_pieces (written_pieces traces lines) (trace_files traces []))
+    (append-nil (trace_head t))
+    ∙ ap (λ (fs : List File). trace_file lines t ∷ fs) (with_saved traces lines)
 
 -- the run's lines are put
-pub run-files : (before mid after : Option (List File)) (first : ℕ) (captures : List Capture) (lines : List (Line Packet))
-    → HasNewFiles before mid first (capture_files captures []) → HasGrownFrom mid after first (saved_pieces captures lines)
-    → HasFiles before after (capture_files captures lines)
-run-files before mid after first captures lines new grown =
-    subst (λ fs. HasFiles before after fs) (with_saved captures lines)
+pub run-files : (before mid after : Option (List File)) (first : ℕ) (traces : List Trace) (lines : List (Line Packet))
+    → HasNewFiles before mid first (trace_files traces []) → HasGrownFrom mid after first (written_pieces traces lines)
+    → HasFiles before after (trace_files traces lines)
+run-files before mid after first traces lines new grown =
+    subst (λ fs. HasFiles before after fs) (with_saved traces lines)
     (new_files-are before after first _
-    (new_files-grown before mid after first (capture_files captures []) (saved_pieces captures lines) (omega (arith, length-saved captures lines [])) new grown))
+    (new_files-grown before mid after first (trace_files traces []) (written_pieces traces lines) (omega (arith, length-written traces lines [])) new grown))
 
-saved_front : (c : Capture) (lines rest : List (Line Packet)) → saved c (lines ++ rest) ≡ saved c lines ++ saved c rest
-saved_front c lines rest = flat_map-append (saved_packet c) lines rest
+saved_front : (t : Trace) (lines rest : List (Line Packet)) → written t (lines ++ rest) ≡ written t lines ++ written t rest
+saved_front t lines rest = flat_map-append (written_by t) lines rest
 
-heads_cut_whole : (captures : List Capture) (lines : List (Line Packet)) → AreCut (capture_files captures []) (capture_files captures lines)
+heads_cut_whole : (traces : List Trace) (lines : List (Line Packet)) → AreCut (trace_files traces []) (trace_files traces lines)
 heads_cut_whole [] lines = tt
-heads_cut_whole (c ∷ captures) lines =
-    (refl, (saved c lines, ap (λ head. head ++ saved c lines) (sym (append-nil (capture_head c.linktype)))), heads_cut_whole captures lines)
+heads_cut_whole (t ∷ traces) lines =
+    (refl, (written t lines, ap (λ head. head ++ written t lines) (sym (append-nil (trace_head t)))), heads_cut_whole traces lines)
 
-saved_fronts_cut : (captures : List Capture) (lines rest : List (Line Packet)) (fronts : List (List ℕ)) → AreFronts fronts (saved_pieces captures lines)
-    → AreCut (with_pieces fronts (capture_files captures [])) (capture_files captures (lines ++ rest))
-saved_fronts_cut captures lines rest [] cut = heads_cut_whole captures (lines ++ rest)
+saved_fronts_cut : (traces : List Trace) (lines rest : List (Line Packet)) (fronts : List (List ℕ)) → AreFronts fronts (written_pieces traces lines)
+    → AreCut (with_pieces fronts (trace_files traces [])) (trace_files traces (lines ++ rest))
+saved_fronts_cut traces lines rest [] cut = heads_cut_whole traces (lines ++ rest)
 saved_fronts_cut [] lines rest (front ∷ fronts) cut = absurd cut
-saved_fronts_cut (c ∷ captures) lines rest (front ∷ fronts) cut =
+saved_fronts_cut (t ∷ traces) lines rest (front ∷ fronts) cut =
     let (more, whole) = cut.0 in
-    let all : saved c (lines ++ rest) ≡ front ++ (more ++ saved c rest) =
-    saved_front c lines rest ∙ ap (λ bytes. bytes ++ saved c rest) whole ∙ append_assoc front more (saved c rest) in
-    let head = capture_head c.linktype in (
+    let all : written t (lines ++ rest) ≡ front ++ (more ++ written t rest) =
+    saved_front t lines rest ∙ ap (λ bytes. bytes ++ written t rest) whole ∙ append_assoc front more (written t rest) in
+    let head = trace_head t in (
       refl,
       (
-        more ++ saved c rest,
-        ap (λ bytes. head ++ bytes) all ∙ sym (append_assoc head front (more ++ saved c rest))
-            ∙ ap (λ h. (h ++ front) ++ (more ++ saved c rest)) (sym (append-nil head)),
+        more ++ written t rest,
+        ap (λ bytes. head ++ bytes) all ∙ sym (append_assoc head front (more ++ written t rest))
+            ∙ ap (λ h. (h ++ front) ++ (more ++ written t rest)) (sym (append-nil head)),
       ),
-      saved_fronts_cut captures lines rest fronts cut.1,
+      saved_fronts_cut traces lines rest fronts cut.1,
     )
 
 -- lines that begin those of the run are put, in part
-pub run-cut : (before mid after : Option (List File)) (first : ℕ) (captures : List Capture) (lines rest : List (Line Packet)) (fronts : List (List ℕ))
-    → HasNewFiles before mid first (capture_files captures []) → HasGrownFrom mid after first fronts → AreFronts fronts (saved_pieces captures lines)
-    → HasFilePrefixes before after (capture_files captures (lines ++ rest))
-run-cut before mid after first captures lines rest fronts new grown cut =
-    let few : length fronts ≤ length (capture_files captures []) =
-    omega (arith, fronts-few fronts (saved_pieces captures lines) cut, length-saved captures lines []) in (
-      with_pieces fronts (capture_files captures []),
-      saved_fronts_cut captures lines rest fronts cut,
-      new_files-are before after first _ (new_files-grown before mid after first (capture_files captures []) fronts few new grown),
+pub run-cut : (before mid after : Option (List File)) (first : ℕ) (traces : List Trace) (lines rest : List (Line Packet)) (fronts : List (List ℕ))
+    → HasNewFiles before mid first (trace_files traces []) → HasGrownFrom mid after first fronts → AreFronts fronts (written_pieces traces lines)
+    → HasFilePrefixes before after (trace_files traces (lines ++ rest))
+run-cut before mid after first traces lines rest fronts new grown cut =
+    let few : length fronts ≤ length (trace_files traces []) =
+    omega (arith, fronts-few fronts (written_pieces traces lines) cut, length-written traces lines []) in (
+      with_pieces fronts (trace_files traces []),
+      saved_fronts_cut traces lines rest fronts cut,
+      new_files-are before after first _ (new_files-grown before mid after first (trace_files traces []) fronts few new grown),
     )

@@ -1,14 +1,13 @@
--- The interfaces of a scenario whose packets are captured, and the files that a run writes of its lines.
-use Rattle.std.specs.Prelude.{ℕ, zero, suc, ◌+◌, ◌<◌, ◌^◌, Bool, true, false, ◌==◌, ◌&&◌, ◌||◌, if◌then◌else◌, List, [], ◌∷◌, ◌++◌, map, filter, codes}
+-- The interfaces of a scenario whose packets are captured, and what lines save of them.
+use Rattle.std.specs.Prelude.{ℕ, ◌≡◌, zero, suc, ◌+◌, ◌<◌, ◌^◌, Bool, true, false, ◌==◌, ◌&&◌, ◌||◌, if◌then◌else◌, List, [], ◌∷◌, ◌++◌, map, filter, codes}
 use Rattle.std.specs.Fmt.{decimal}
-use Rattle.std.specs.List.{flat_map, list_any}
+use Rattle.std.specs.List.{AllByRecursion, list_any}
 use Rattle.sim_base.specs.declared.key.NodeId.{NodeId}
 use Rattle.sim_base.specs.Packet.{Packet}
 use Rattle.pkt_face.specs.declared.line.Line.{Line}
 use Rattle.pkt_face.specs.declared.line.Sign.{Sign}
 use Rattle.pkt_face.specs.declared.line.Sign.TheVariants.{Enqueue, Dequeue, Drop, Receive, Save}
-use Rattle.outside.specs.declared.store.File.{File}
-use Rattle.pcap_form.specs.Capture.{capture_head, captured_packet}
+use Rattle.pcap_form.specs.Capture.{captured_packet}
 use Rattle.scenario_form.specs.declared.scenario.Link.{Link}
 use Rattle.scenario_form.specs.declared.scenario.Lan.{Lan}
 use Rattle.scenario_form.specs.declared.scenario.Scenario.{Scenario}
@@ -62,7 +61,7 @@ pub record HasNumbers (c : Capture) : Type 0 where
   pub node : c.node.0 < 2 ^ 32
   pub iface : c.iface < 2 ^ 32
 
--- ---- their files
+-- ---- their packets
 
 abbrev pub capture_name : Capture → List ℕ
 capture_name c = codes "trace-" ++ decimal c.node.0 ++ codes "-" ++ decimal c.iface ++ codes ".pcap"
@@ -86,18 +85,7 @@ is_saved c line = is_save line.sign && is_of line.node.0 line.iface c
 abbrev pub saved_packet : Capture → Line Packet → List ℕ
 saved_packet c line = if is_saved c line then captured_packet line.key.time.0 line.packet.bytes else []
 
--- the captured packets of an interface, in the order of the lines
-abbrev pub saved : Capture → List (Line Packet) → List ℕ
-saved c lines = flat_map (saved_packet c) lines
-
--- a file: the head, and then the packets
-abbrev pub capture_file : List (Line Packet) → Capture → File
-capture_file lines c = record { name = capture_name c; bytes = capture_head c.linktype ++ saved c lines }
-
--- a file for each captured interface, with what these lines save
-abbrev pub capture_files : List Capture → List (Line Packet) → List File
-capture_files captures lines = map (capture_file lines) captures
-
--- the files of a run with these lines
-abbrev pub run_files : Scenario → List (Line Packet) → List File
-run_files s lines = capture_files (captures_of s) lines
+-- no two captures are of one interface
+abbrev pub AreApart : List Capture → Type 0
+AreApart [] = Unit {0}
+AreApart (c ∷ captures) = AllByRecursion (λ other. is_of c.node.0 c.iface other ≡ false) captures × AreApart captures

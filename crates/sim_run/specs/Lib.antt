@@ -1,4 +1,5 @@
 pub mod Captures
+pub mod Traces
 pub mod Pieces
 pub mod Places
 pub mod Grown

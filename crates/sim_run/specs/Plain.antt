@@ -9,7 +9,7 @@ use Rattle.sim_run.specs.declared.command.Command.TheVariants.{Run, Check}
 use Rattle.sim_run.specs.declared.command.WordFault.{WordFault}
 use Rattle.sim_run.specs.declared.status.Status.{Status}
 use Rattle.sim_run.specs.declared.status.Status.TheVariants.{Done, Words, Scenario as Refused, ReadFault, WriteFault, Limit, NoMemory}
-use Rattle.sim_run.specs.Captures.{run_files}
+use Rattle.sim_run.specs.Traces.{run_files}
 use Rattle.sim_run.specs.Command.{command_of}
 use Rattle.sim_run.specs.Reading.{reading_of}
 use Rattle.sim_run.specs.Run.{RunEnding, ending_of, lines_of, events_in, drops_in, counts_in}
@@ -35,7 +35,7 @@ abbrev pub run_text : Scenario → RunEnding → List ℕ
 run_text s (Ended final) = summary (events_in final) (drops_in s final) s.apps (counts_in s final)
 run_text s (Limited key fired) = []
 
--- a run makes the captures, and a check writes the sizes of the scenario
+-- a run makes the traces, and a check writes the sizes of the scenario
 abbrev pub finished : Command → Scenario → Outcome
 finished Run s = record { status = run_status (ending_of s); files = run_files s (lines_of s); text = run_text s (ending_of s) }
 finished Check s = record { status = Done; files = []; text = sizes_line s }

@@ -8,13 +8,13 @@ use Rattle.node_step.specs.declared.local_app.AppCount.{AppCount}
 use Rattle.node_step.specs.Firing.{Text}
 use Rattle.node_step.specs.Node.{PlainNode}
 use Rattle.node_step.specs.Part.{counts, drops}
-use Rattle.node_rules.specs.Rules.{NoLan}
+use Rattle.csma_dev.specs.declared.bus.Bus.{Bus}
 use Rattle.scenario_form.specs.declared.scenario.Scenario.{Scenario}
 use Rattle.sim_world.specs.World.{world_of}
 use Rattle.plain_kernel.specs.Run.{RunWorld, ending, nodes_in, run_lines}
 
 abbrev pub RunEnding : Type 0
-RunEnding = Ending PlainNode NoLan (Load Packet) Text
+RunEnding = Ending PlainNode Bus (Load Packet) Text
 
 -- how the plain run of a scenario ends
 abbrev pub ending_of : Scenario → RunEnding

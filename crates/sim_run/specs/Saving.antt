@@ -11,25 +11,25 @@ use Rattle.sim_world.specs.World.{PlainWorld}
 use Rattle.plain_kernel.specs.declared.report.Report.{Report}
 use Rattle.plain_kernel.specs.Run.{run_lines}
 use Rattle.plain_kernel.specs.Stop.{HasEnded, MeetsLimit}
-use Rattle.sim_run.specs.declared.captures.Capture.{Capture}
+use Rattle.sim_run.specs.declared.traces.Trace.{Trace}
 use Rattle.sim_run.specs.declared.stop.RunStop.{RunStop}
 use Rattle.sim_run.specs.declared.stop.RunStop.TheVariants.{WriteFault, Limit, NoMemory}
-use Rattle.sim_run.specs.Pieces.{saved_pieces, HasGrownFrom, HasGrownByFronts}
+use Rattle.sim_run.specs.Pieces.{written_pieces, HasGrownFrom, HasGrownByFronts}
 
 -- the run of a world has met its limit at this node and time
 abbrev pub StopsAt : PlainWorld → NodeId → Time → Type 0
 StopsAt w node time = (key : Key) × MeetsLimit w key node × (time ≡ key.time)
 
--- the files from a place on have grown by fronts of what a beginning of the run's lines saves
-abbrev pub HasBegun : PlainWorld → List Capture → ℕ → Option (List File) → Option (List File) → Type 0
-HasBegun w captures first before after =
-    (lines : List (Line Packet)) × IsPrefixOf lines (run_lines w) × HasGrownByFronts before after first (saved_pieces captures lines)
+-- the files from a place on have grown by fronts of what a beginning of the run's lines writes
+abbrev pub HasBegun : PlainWorld → List Trace → ℕ → Option (List File) → Option (List File) → Type 0
+HasBegun w traces first before after =
+    (lines : List (Line Packet)) × IsPrefixOf lines (run_lines w) × HasGrownByFronts before after first (written_pieces traces lines)
 
--- the files from a place on have grown by what the run's lines save, where it came to its end or to the limit of a node
-abbrev pub Saves : PlainWorld → List Capture → ℕ → Option (List File) → Option (List File) → Result Report RunStop → Type 0
-Saves w captures first before after (Ok report) =
-    HasEnded w report × HasGrownFrom before after first (saved_pieces captures (run_lines w))
-Saves w captures first before after (Err (Limit node time)) =
-    StopsAt w node time × HasGrownFrom before after first (saved_pieces captures (run_lines w))
-Saves w captures first before after (Err WriteFault) = HasBegun w captures first before after
-Saves w captures first before after (Err NoMemory) = HasBegun w captures first before after
+-- the files from a place on have grown by what the run's lines write, where it came to its end or to the limit of a node
+abbrev pub Saves : PlainWorld → List Trace → ℕ → Option (List File) → Option (List File) → Result Report RunStop → Type 0
+Saves w traces first before after (Ok report) =
+    HasEnded w report × HasGrownFrom before after first (written_pieces traces (run_lines w))
+Saves w traces first before after (Err (Limit node time)) =
+    StopsAt w node time × HasGrownFrom before after first (written_pieces traces (run_lines w))
+Saves w traces first before after (Err WriteFault) = HasBegun w traces first before after
+Saves w traces first before after (Err NoMemory) = HasBegun w traces first before after

@@ -2,8 +2,7 @@
 
 ghost use Rattle.std.specs.Prelude.{◌≡◌, ◌++◌, IfOk, OnOk, filter, map};
 ghost use Rattle.std.specs.List.{AllByRecursion};
-ghost use Rattle.sim_run.specs.Captures.{HasNumbers, captures_from, captures_of, ends_at, ethernet, faces_of, is_joined, lan_face, link_face, ppp};
-ghost use Rattle.sim_run.specs.Pieces.{AreApart};
+ghost use Rattle.sim_run.specs.Captures.{AreApart, HasNumbers, captures_from, captures_of, ends_at, ethernet, faces_of, is_joined, lan_face, link_face, ppp};
 
 use scenario_form::{Lan, Link, Scenario};
 use sim_base::{NoMemory, NodeId};

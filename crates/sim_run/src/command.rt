@@ -6,7 +6,7 @@ ghost use Rattle.sim_run.specs.Command.{command_named, command_of, refuse, setti
 /// What the program is to do.
 #[derive(Clone, Copy, Debug, PartialEq, Eq)]
 pub enum Command {
-    /// Simulates the scenario, and writes its captures and its summary.
+    /// Simulates the scenario, and writes its traces and its summary.
     Run,
     /// Reads the scenario, and writes its sizes.
     Check,

@@ -7,6 +7,7 @@ mod create;
 mod input;
 mod output;
 mod pieces;
+mod places;
 mod program;
 mod reading;
 mod simulate;
@@ -15,6 +16,7 @@ mod status;
 mod stop;
 mod summary;
 mod trace_files;
+mod traces;
 
 pub use command::{Command, WordCode, WordFault, read_command};
 pub use program::run_program;

@@ -1,24 +1,24 @@
-//! What is to be put behind the files of captured interfaces: one piece for each, and for each interface which
-//! one is its own.
+//! What is to be put behind the files of a run: one piece for each trace, and for each line which one is its own.
 
-ghost use Rattle.std.specs.Prelude.{◌≡◌, ℕ, ◌<◌, ◌≤◌, ◌*◌, ◌^◌, ◌++◌, [], IfOk, IfSome, OnOk, OnErr, length, map, slice_set, slice_index_or, vec_len};
-ghost use Rattle.pcap_form.specs.Capture.{capture_head, captured_packet};
-ghost use Rattle.std.specs.HashMap.{get};
-ghost use Rattle.sim_run.specs.Places.{Piece, same_interface};
+ghost use Rattle.std.specs.Prelude.{◌≡◌, ℕ, ◌<◌, ◌≤◌, ◌*◌, ◌^◌, ◌++◌, [], IfOk, IfSome, OnOk, length, map, slice_set, slice_index_or, vec_len};
+ghost use Rattle.ascii_trace.specs.Text.{entry_text};
+ghost use Rattle.pcap_form.specs.Capture.{captured_packet};
+ghost use Rattle.sim_run.specs.Places.{Piece};
 
-use crate::captures::Capture;
-use pcap_form::{write_bytes, write_head};
+use crate::places::Places;
+use crate::traces::{Trace, write_trace_head};
+use ascii_trace::{Entry, write_entry};
+use pcap_form::write_bytes;
 use pkt_face::Sign;
-use sim_base::{NoMemory, NodeId, Time};
+use sim_base::{Item, NoMemory, NodeId, Time};
 use std::alloc::Global;
-use std::collections::HashMap;
 use std::marker::Model;
 
-/// Captured interfaces, and what is to be put behind the file of each. The pieces keep their room.
+/// Traces, and what is to be put behind the file of each. The pieces keep their room.
 #[derive(Drop)]
 pub struct Pieces {
-    captures: Vec<Capture>,
-    places: HashMap<(u32, u32), usize>,
+    traces: Vec<Trace>,
+    places: Places,
     pieces: Vec<Vec<u8>>,
 }
 
@@ -29,71 +29,79 @@ impl Model for Pieces {
 
     ghost Value = { PlainPieces };
 
-    ghost view = { λ p. record { captures = p.captures.items; pieces = map (λ piece. piece.items) p.pieces.items } };
+    ghost view = { λ p. record { traces = p.traces.items; pieces = map (λ piece. piece.items) p.pieces.items } };
 
-    ghost invariant = { λ p. HasPlaces p.captures.items p.places p.pieces.items };
+    ghost invariant = { λ p. HasPlaces p.traces.items p.places p.pieces.items };
 }
 
 impl Pieces {
-    ghost use Rattle.sim_run.specs.Pieces.{PlainPieces, AreApart, place_for};
+    ghost use Rattle.sim_run.specs.Pieces.{PlainPieces};
+    ghost use Rattle.sim_run.specs.Traces.{HaveOwnLines, place_for, trace_head};
 
     /// The heads of the files, as their first pieces.
-    pub fn make(alloc: Global, captures: Vec<Capture>) -> Result<Pieces, NoMemory>
-        requires { AreApart captures.items }
-        ensures { IfOk result (λ p. p ≡ record { captures = captures.items; pieces = map (λ c. capture_head c.linktype) captures.items }) }
+    pub fn make(alloc: Global, traces: Vec<Trace>) -> Result<Pieces, NoMemory>
+        requires { HaveOwnLines traces.items }
+        ensures { IfOk result (λ p. p ≡ record { traces = traces.items; pieces = map trace_head traces.items }) }
     {
-        let mut places = HashMap::new(alloc);
+        let mut places = Places::make(alloc);
         let mut pieces = Vec::new(alloc);
-        for (place, capture) in captures.iter().enumerate() {
-            places.insert((capture.node.0, capture.iface), place)?;
+        for (place, trace) in traces.iter().enumerate() {
+            places.note(trace, place)?;
             let mut piece = Vec::new(alloc);
-            write_head(capture.linktype, &mut piece)?;
+            write_trace_head(trace, &mut piece)?;
             pieces.push(piece)?;
         }
         Ok(Pieces {
-            captures,
+            traces,
             places,
             pieces,
         })
     }
 
-    pub fn captures(&self) -> &[Capture]
-        ensures value { result.now ≡ self.now.captures }
-        ensures pieces { length self.now.pieces ≡ length self.now.captures }
-        ensures apart { AreApart self.now.captures }
+    /// How many pieces there are.
+    pub fn count(&self) -> usize
+        ensures pieces { result ≡ length self.now.pieces }
+        ensures traces { result ≡ length self.now.traces }
     {
-        &self.captures
+        self.pieces.len()
     }
 
     /// Empties the pieces.
     pub fn clear(&mut self)
-        ensures { self.new ≡ record self.old { pieces = map (λ c. []) self.old.captures } }
+        ensures { self.new ≡ record self.old { pieces = map (λ t. []) self.old.traces } }
     {
         clear_all(&mut self.pieces);
     }
 
-    /// Which piece a line goes to: that of its interface, where it saves a packet.
+    /// Which piece a line goes to: that of its interface, where it saves a packet, and else that of the text.
     pub fn place_for(&self, sign: Sign, node: NodeId, iface: u32) -> Option<usize>
-        ensures value { result ≡ place_for sign node.0 iface self.now.captures }
+        ensures value { result ≡ place_for sign node.0 iface self.now.traces }
         ensures within { IfSome result (λ place. place < length self.now.pieces) }
-        ensures apart { AreApart self.now.captures }
+        ensures own { HaveOwnLines self.now.traces }
     {
-        match sign {
-            Sign::Save => place_of(&self.places, node, iface),
-            Sign::Enqueue | Sign::Dequeue | Sign::Drop | Sign::Receive => None,
-        }
+        self.places.find(sign, node, iface)
     }
 
     /// Puts a captured packet behind a piece.
-    pub fn add(&mut self, place: usize, time: Time, frame: &[u8]) -> Result<(), NoMemory>
+    pub fn add_packet(&mut self, place: usize, time: Time, frame: &[u8]) -> Result<(), NoMemory>
         requires within { place < length self.old.pieces }
         requires time { time.0 < 2 ^ 32 * 10 ^ 9 }
         requires size { length frame.now ≤ 131072 }
-        ensures captures { self.new.captures ≡ self.old.captures }
+        ensures traces { self.new.traces ≡ self.old.traces }
         ensures ok { OnOk result (self.new.pieces ≡ slice_set self.old.pieces place (slice_index_or self.old.pieces place [] ++ captured_packet time.0 frame.now)) }
     {
         let piece = &mut self.pieces[place];
         write_bytes(time, frame, piece)
+    }
+
+    /// Puts the text of a line behind a piece.
+    pub fn add_text(&mut self, place: usize, entry: &Entry, items: &[Item]) -> Result<(), NoMemory>
+        requires { place < length self.old.pieces }
+        ensures traces { self.new.traces ≡ self.old.traces }
+        ensures ok { OnOk result (self.new.pieces ≡ slice_set self.old.pieces place (slice_index_or self.old.pieces place [] ++ entry_text entry.now items.now)) }
+    {
+        let piece = &mut self.pieces[place];
+        write_entry(entry, items, piece)
     }
 
     /// A piece.
@@ -103,13 +111,6 @@ impl Pieces {
     {
         &self.pieces[place]
     }
-}
-
-/// The place that is noted for an interface.
-fn place_of(places: &HashMap<(u32, u32), usize>, node: NodeId, iface: u32) -> Option<usize>
-    ensures { result ≡ get same_interface places.now (node.0, iface) }
-{
-    places.get(&(node.0, iface)).copied()
 }
 
 /// Empties each piece, and keeps its room.

@@ -1,4 +1,4 @@
-//! A run on its way out: the capture files are made, the kernel runs, its lines go to the files, and
+//! A run on its way out: the files are made, the kernel runs, its lines go to the files, and
 //! the summary is written last.
 
 ghost use Rattle.std.specs.Prelude.{◌≡◌, ◌+◌, ◌≤◌, ◌⊎◌, ◌++◌, ◌^◌, ℕ, List, codes, false, length, Err, IfOk, IfErr, OnOk};
@@ -10,21 +10,21 @@ ghost use Rattle.sim_world.specs.NotBuilt.{not_built};
 ghost use Rattle.sim_world.specs.Opening.{OpensRuns};
 ghost use Rattle.sim_world.specs.World.{world_of};
 ghost use Rattle.plain_kernel.specs.Stop.{HasEnded};
-ghost use Rattle.sim_run.specs.Captures.{run_files};
+ghost use Rattle.sim_run.specs.Traces.{run_files};
 ghost use Rattle.sim_run.specs.Output.{HasFiles, HasFilePrefixes, HasGot, HasGotPrefix};
 ghost use Rattle.sim_run.specs.Plain.{run_status, run_text};
 ghost use Rattle.sim_run.specs.Run.{ending_of, lines_of};
 ghost use Rattle.sim_run.specs.Saving.{Saves};
 ghost use Rattle.sim_run.specs.Stop.{IsWhole};
 
-use crate::create::{Opened, open_captures};
+use crate::create::{Opened, open_traces};
 use crate::output::write_all;
 use crate::status::Status;
 use crate::stop::{RunStop, stopped};
 use crate::summary::summary;
 use crate::trace_files::TraceFiles;
 use outside::{Sink, StoreStop, TraceStore};
-use pkt_face::Pkt;
+use pkt_face::{BoxedPkt, Pkt};
 use plain_kernel::{KernelStop, Report, run_plain};
 use scenario_form::Scenario;
 use sim_world::World;
@@ -49,7 +49,7 @@ pub fn simulate<P: Pkt, F: TraceStore, O: Sink>(
     ensures later { (F.faults store.old ≤ F.faults store.new) × (O.faults out.old ≤ O.faults out.new) }
     ensures cause { result ≡ Err RunStop.WriteFault → Rose (F.faults store.old) (F.faults store.new) ⊎ Rose (O.faults out.old) (O.faults out.new) }
 {
-    let report = match write_captures::<P, F>(alloc, scenario, store) {
+    let report = match write_traces::<P, F>(alloc, scenario, store) {
         Ok(report) => report,
         Err(stop) => return Err(stop),
     };
@@ -59,8 +59,8 @@ pub fn simulate<P: Pkt, F: TraceStore, O: Sink>(
     }
 }
 
-/// Makes the capture files of a scenario, and runs it into them.
-fn write_captures<P: Pkt, F: TraceStore>(
+/// Makes the files of a scenario, and runs it into them. The run moves each packet as one word.
+fn write_traces<P: Pkt, F: TraceStore>(
     alloc: Global,
     scenario: &Scenario,
     store: &mut F,
@@ -75,17 +75,17 @@ fn write_captures<P: Pkt, F: TraceStore>(
     ensures later { F.faults store.old ≤ F.faults store.new }
     ensures cause { result ≡ Err RunStop.WriteFault → Rose (F.faults store.old) (F.faults store.new) }
 {
-    let opened = match open_captures(alloc, scenario, store) {
+    let opened = match open_traces(alloc, scenario, store) {
         Ok(opened) => opened,
         Err(stop) => return Err(stopped(stop)),
     };
-    let Ok(world) = World::<P>::make(alloc, scenario) else {
+    let Ok(world) = World::<BoxedPkt<P>>::make(alloc, scenario) else {
         return Err(RunStop::NoMemory);
     };
     save_run(alloc, world, opened, store)
 }
 
-/// Runs a world, and puts what is captured behind the heads of the files that were opened.
+/// Runs a world, and puts what its lines write behind the heads of the files that were opened.
 fn save_run<P: Pkt, F: TraceStore>(
     alloc: Global,
     world: World<P>,
@@ -94,9 +94,9 @@ fn save_run<P: Pkt, F: TraceStore>(
 ) -> Result<Report, RunStop>
     requires opens { OpensRuns world }
     requires stop { world.stop.0 ≤ 10 ^ 12 }
-    requires made { opened.first + length opened.pieces.captures ≤ F.made store.old }
-    requires numbers { opened.first + length opened.pieces.captures ≤ 2 ^ 64 }
-    ensures saves { Saves world opened.pieces.captures opened.first (F.files store.old) (F.files store.new) result }
+    requires made { opened.first + length opened.pieces.traces ≤ F.made store.old }
+    requires numbers { opened.first + length opened.pieces.traces ≤ 2 ^ 64 }
+    ensures saves { Saves world opened.pieces.traces opened.first (F.files store.old) (F.files store.new) result }
     ensures later { F.faults store.old ≤ F.faults store.new }
     ensures cause { result ≡ Err RunStop.WriteFault → Rose (F.faults store.old) (F.faults store.new) }
 {

@@ -22,6 +22,16 @@ app 0 udp-echo-server sent 1 1024 received 1 1024
 app 1 udp-echo-client sent 1 1024 received 1 1024
 ";
 
+/// The text trace of the echo.
+const ECHO_LINES: &str = "\
++ 2.000000000 n0 i0 p0.0 1054 ppp:2 ipv4:20 udp:8 payload:1024
+- 2.000000000 n0 i0 p0.0 1054 ppp:2 ipv4:20 udp:8 payload:1024
+r 2.003686400 n1 i0 p0.0 1054 ppp:2 ipv4:20 udp:8 payload:1024
++ 2.003686400 n1 i0 p0.0 1054 ppp:2 ipv4:20 udp:8 payload:1024
+- 2.003686400 n1 i0 p0.0 1054 ppp:2 ipv4:20 udp:8 payload:1024
+r 2.007372800 n0 i0 p0.0 1054 ppp:2 ipv4:20 udp:8 payload:1024
+";
+
 /// What the sink gets of the echo that is stopped at once.
 const NO_ECHO_SUMMARY: &str = "events 0
 drops 0
@@ -205,6 +215,26 @@ fn an_echo_is_captured_at_both_ends(rt: HostRuntime) {
     assert!(rt; store.files()[1].name.as_slice() == b"trace-1-0.pcap".as_slice());
 }
 
+/// Each node begins to send the frame as soon as it waits, and the other gets it 3.6864 ms later.
+#[test]
+fn an_echo_has_six_lines_in_the_text_trace(rt: HostRuntime) {
+    let input = changed(&rt, rt.alloc(), ECHO, "ascii = false", "ascii = true");
+    let store = assert_run(
+        &rt,
+        rt.alloc(),
+        &["run"],
+        input.as_str(),
+        &[],
+        Status::Done,
+        &[2164, 2164, ECHO_LINES.len()],
+        ECHO_SUMMARY,
+    );
+    assert!(rt; store.files().len() == 3);
+    let file = &store.files()[2];
+    assert!(rt; file.name.as_slice() == b"trace.tr".as_slice());
+    assert!(rt; file.bytes.as_slice() == ECHO_LINES.as_bytes());
+}
+
 #[test]
 fn a_run_that_stops_at_once_fires_nothing(rt: HostRuntime) {
     let input = changed(
@@ -273,7 +303,8 @@ fn a_check_writes_the_sizes_of_a_scenario(rt: HostRuntime) {
     assert_run(&rt, rt.alloc(), &["check"], ECHO, &[], done, &[], SIZES);
 }
 
-/// Two calls make the files, two put their heads, and two the packets.
+/// Two calls make the files, two put their heads, and two the packets. The text trace is made behind the captures, and has no
+/// head.
 #[test]
 fn a_failed_append_leaves_what_was_put_and_no_summary(rt: HostRuntime) {
     let fault = Status::WriteFault;
@@ -288,6 +319,18 @@ fn a_failed_append_leaves_what_was_put_and_no_summary(rt: HostRuntime) {
         "",
     );
     assert_run(&rt, rt.alloc(), &["run"], ECHO, &[3], fault, &[0, 0], "");
+    let input = changed(&rt, rt.alloc(), ECHO, "ascii = false", "ascii = true");
+    let traced = input.as_str();
+    assert_run(
+        &rt,
+        rt.alloc(),
+        &["run"],
+        traced,
+        &[6],
+        fault,
+        &[24, 24, 0],
+        "",
+    );
 }
 
 #[test]
@@ -299,8 +342,8 @@ fn a_failed_read_makes_no_file(rt: HostRuntime) {
 }
 
 #[test]
-fn a_text_trace_is_not_built_yet(rt: HostRuntime) {
-    let input = changed(&rt, rt.alloc(), ECHO, "ascii = false", "ascii = true");
+fn least_cost_routes_are_not_built_yet(rt: HostRuntime) {
+    let input = changed(&rt, rt.alloc(), ECHO, "ascii = false", "routing = \"auto\"");
     let bytes = input.as_bytes();
     assert_no_scenario(&rt, rt.alloc(), "run", bytes, Refusal::NotBuilt);
     assert_no_scenario(&rt, rt.alloc(), "check", bytes, Refusal::NotBuilt);
@@ -308,11 +351,11 @@ fn a_text_trace_is_not_built_yet(rt: HostRuntime) {
 
 #[test]
 fn a_refusal_of_the_language_comes_before_not_built(rt: HostRuntime) {
-    let traced = changed(&rt, rt.alloc(), ECHO, "ascii = false", "ascii = true");
+    let routed = changed(&rt, rt.alloc(), ECHO, "ascii = false", "routing = \"auto\"");
     let input = changed(
         &rt,
         rt.alloc(),
-        traced.as_str(),
+        routed.as_str(),
         "rate_bps = 5000000",
         "rate_bps = 5000000.0",
     );
