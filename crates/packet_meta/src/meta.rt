@@ -1,6 +1,6 @@
 //! The list of items, and what pushes, cuts and joins of the packet do to it.
 
-ghost use Rattle.std.specs.Prelude.{◌≡◌, ◌+◌, ◌≤◌, [], ◌++◌, length, IfOk, IsOk, OnOk, OnErr};
+ghost use Rattle.std.specs.Prelude.{◌≡◌, ◌+◌, ◌-◌, ◌<◌, ◌≤◌, [], ◌++◌, length, take, drop, IfOk, IsOk, OnOk, OnErr};
 ghost use Rattle.sim_base.specs.Items as parts;
 ghost use Rattle.sim_base.specs.Items.{total_left};
 ghost use Rattle.sim_base.specs.Packet.{longest};
@@ -48,7 +48,8 @@ impl Meta {
         ensures inline { length (parts.whole kind size ++ self.old) ≤ INLINE → IsOk result }
     {
         if size > 0 {
-            self.items.insert(0, Item::whole(kind, size))?;
+            self.items.push(Item::whole(kind, size))?;
+            move_last_to_front(self.items.as_mut_slice());
         }
         Ok(())
     }
@@ -76,6 +77,16 @@ impl Meta {
         self.items.retain(|item| item.left() > 0);
     }
 
+    /// Leaves off the first item.
+    pub fn leave_off_first(&mut self)
+        requires { 0 < length self.old }
+        ensures { self.new ≡ drop 1 self.old }
+    {
+        let last = self.items.len() - 1;
+        self.items.as_mut_slice().copy_within(1.., 0);
+        self.items.truncate(last);
+    }
+
     /// Adds the items of a packet that comes behind. Where its first item goes on exactly where the last
     /// one here ends, inside the same part, the two become one.
     pub fn join(&mut self, other: &Meta) -> Result<(), NoMemory>
@@ -101,6 +112,17 @@ impl Meta {
     {
         self.items.as_slice()
     }
+}
+
+// The last item comes before all others.
+fn move_last_to_front(items: &mut [Item])
+    requires { 0 < length items.old }
+    ensures { items.new ≡ drop (length items.old - 1) items.old ++ take (length items.old - 1) items.old }
+{
+    let last = items.len() - 1;
+    let item = items[last];
+    items.copy_within(..last, 1);
+    items[0] = item;
 }
 
 // Adds items that come behind the others.

@@ -1,5 +1,5 @@
 -- A packet may be read in several threads at once. A caller that needs it at this packet cites this, since the base of the atomic steps proves no such thing of a seat.
-use denote.Param.Send.{IsSync, param_sync, sendable, part_keyless}
+use denote.Param.Send.{IsSync, sendable, part_keyless}
 use Rattle.std.proofs.Crossing.{crosses}
 use Rattle.atomic_table.specs.contracts.shared.Seat as Seat
 use Rattle.atomic_table.proofs.shared.Seat.TheSendSync as seat

@@ -1,5 +1,5 @@
 -- A plain packet by its bytes, its tags and its items: what a call leaves, where it leaves each part as its word says.
-use Rattle.std.proofs.Common.{ℕ, ◌≡◌, List, [], ◌++◌, length, refl, sym, ap, ◌∙◌}
+use Rattle.std.proofs.Common.{ℕ, ◌≡◌, List, ◌++◌, length, refl, sym, ap, ◌∙◌}
 use Rattle.std.specs.Prelude.{slice_range, replicate}
 use Rattle.sim_base.specs.declared.numbers.Uid.{Uid}
 use Rattle.sim_base.specs.declared.item.Item.{Item}

@@ -23,7 +23,8 @@ pub struct SharedPkt {
 
 impl Pkt for SharedPkt {
     ghost use Rattle.std.specs.Prelude.{◌≡◌, ◌+◌, ◌<◌, ◌≤◌, length, IfOk, IsOk, OnOk, OnErr};
-    ghost use Rattle.block_pool.specs.Spare.{HasSpareFor};
+    ghost use Rattle.block_pool.specs.Spare.{taken, taken_for, HasSpareFor, TakesOne};
+    ghost use Rattle.block_pool.specs.declared.class.Class.TheVariants.{Small};
     ghost use Rattle.sim_base.specs.Packet as packet;
     ghost use Rattle.sim_base.specs.Packet.{len, longest};
     ghost use Rattle.shared_packet.specs.Shared.{plain_packet, SharesBlock, ready_of, PutsInPlace};
@@ -47,6 +48,7 @@ impl Pkt for SharedPkt {
         ensures plain { IfOk result (λ p. plain_packet p ≡ packet.zeros uid n) }
         ensures ready { IfOk result (λ p. ready_of p ≡ 64) }
         ensures succeeds { 0 < maker.old.small → IsOk result }
+        ensures taken { maker.new ≡ taken Small maker.old }
     {
         let mut items = Meta::new(alloc);
         items.push_back(Kind::Payload, n)?;
@@ -70,6 +72,7 @@ impl Pkt for SharedPkt {
         ensures plain { IfOk result (λ p. plain_packet p ≡ packet.from_bytes uid bytes.now) }
         ensures ready { IfOk result (λ p. ready_of p ≡ 64) }
         ensures succeeds { HasSpareFor (length bytes.now) maker.old → IsOk result }
+        ensures taken { maker.new ≡ taken_for (length bytes.now) maker.old }
     {
         let mut items = Meta::new(alloc);
         items.push_back(Kind::Payload, bytes.len() as u32)?;
@@ -81,7 +84,13 @@ impl Pkt for SharedPkt {
         })
     }
 
-    fn copy(&mut self, _maker: &mut Pool) -> Result<SharedPkt, NoMemory> {
+    /// A copy takes no block.
+    fn copy(&mut self, _maker: &mut Pool) -> Result<SharedPkt, NoMemory>
+        ensures same { plain_packet self.new ≡ plain_packet self.old }
+        ensures copy { IfOk result (λ p. plain_packet p ≡ plain_packet self.old) }
+        ensures shares { IfOk result (λ p. SharesBlock self.new p) }
+        ensures kept { _maker.new ≡ _maker.old }
+    {
         let tags = self.tags.copy()?;
         let items = self.items.copy()?;
         Ok(SharedPkt {
@@ -98,6 +107,7 @@ impl Pkt for SharedPkt {
         ensures ok { OnOk result (plain_packet self.new ≡ packet.push_front kind bytes.now (plain_packet self.old)) }
         ensures err { OnErr result (plain_packet self.new ≡ plain_packet self.old) }
         ensures ready { 0 < length bytes.now → length bytes.now ≤ ready_of self.old → length self.old.items < INLINE → (IsOk result) × (maker.new ≡ maker.old) × PutsInPlace (length bytes.now) self.old self.new }
+        ensures taken { TakesOne maker.old maker.new }
     {
         let size = bytes.len() as u32;
         let len = self.bytes.len();
@@ -114,7 +124,12 @@ impl Pkt for SharedPkt {
         }
     }
 
-    fn push_back(&mut self, maker: &mut Pool, kind: Kind, bytes: &[u8]) -> Result<(), NoMemory> {
+    fn push_back(&mut self, maker: &mut Pool, kind: Kind, bytes: &[u8]) -> Result<(), NoMemory>
+        requires { len (plain_packet self.old) + length bytes.now ≤ longest }
+        ensures ok { OnOk result (plain_packet self.new ≡ packet.push_back kind bytes.now (plain_packet self.old)) }
+        ensures err { OnErr result (plain_packet self.new ≡ plain_packet self.old) }
+        ensures taken { TakesOne maker.old maker.new }
+    {
         let len = self.bytes.len();
         self.items.push_back(kind, bytes.len() as u32)?;
         match self.bytes.push_back(maker, bytes) {
@@ -127,12 +142,20 @@ impl Pkt for SharedPkt {
     }
 
     fn cut(&mut self, from: u32, to: u32) {
+        if from == 0 && to == self.bytes.len() {
+            return;
+        }
         self.bytes.cut(from, to);
         self.tags.clip(from, to);
         self.items.cut(from, to);
     }
 
-    fn join(&mut self, maker: &mut Pool, other: &SharedPkt) -> Result<(), NoMemory> {
+    fn join(&mut self, maker: &mut Pool, other: &SharedPkt) -> Result<(), NoMemory>
+        requires { len (plain_packet self.old) + len (plain_packet other.now) ≤ longest }
+        ensures ok { OnOk result (plain_packet self.new ≡ packet.join (plain_packet self.old) (plain_packet other.now)) }
+        ensures err { OnErr result (plain_packet self.new ≡ plain_packet self.old) }
+        ensures taken { TakesOne maker.old maker.new }
+    {
         let mut tags = self.tags.copy()?;
         tags.append(&other.tags, self.bytes.len())?;
         let mut items = self.items.copy()?;
@@ -166,9 +189,12 @@ impl Pkt for SharedPkt {
 
     fn pop_front(&mut self, n: u32, kind: Kind) -> bool {
         let first = self.items.list().first();
-        let whole = first.is_some_and(|item| item.is_whole(kind, n));
+        if first.is_some_and(|item| item.is_whole(kind, n)) {
+            self.leave_off_first(n);
+            return true;
+        }
         self.cut(n, self.len());
-        whole
+        false
     }
 
     fn pop_back(&mut self, n: u32, kind: Kind) -> bool {
@@ -196,5 +222,24 @@ impl Pkt for SharedPkt {
 
     fn byte_tags(&self) -> &[ByteTag] {
         self.tags.byte_list()
+    }
+}
+
+impl SharedPkt {
+    ghost use Rattle.std.specs.Prelude.{◌≡◌, IfSome, IsSome, slice_get};
+    ghost use Rattle.sim_base.specs.Items.{left};
+    ghost use Rattle.sim_base.specs.Packet as packet;
+    ghost use Rattle.shared_packet.specs.Shared.{plain_packet};
+
+    // Leaves off the first item, of which `n` bytes are left.
+    fn leave_off_first(&mut self, n: u32)
+        requires some { IsSome (slice_get self.old.items 0) }
+        requires left { IfSome (slice_get self.old.items 0) (λ item. left item ≡ n) }
+        ensures { plain_packet self.new ≡ packet.pop_front n (plain_packet self.old) }
+    {
+        let len = self.bytes.len();
+        self.bytes.leave_off(n);
+        self.tags.clip(n, len);
+        self.items.leave_off_first();
     }
 }

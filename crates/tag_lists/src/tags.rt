@@ -47,6 +47,9 @@ impl Tags {
         requires { All (IsTagWithin (longest - n)) self.old.byte_tags }
         ensures { self.new ≡ with_byte_tags (on_bytes.shift n self.old.byte_tags) self.old }
     {
+        if self.byte_tags.is_empty() {
+            return;
+        }
         ByteTag::shift_all(self.byte_tags.as_mut_slice(), n);
     }
 
@@ -56,6 +59,9 @@ impl Tags {
         requires { from ≤ to }
         ensures { self.new ≡ with_byte_tags (on_bytes.clip from to self.old.byte_tags) self.old }
     {
+        if self.byte_tags.is_empty() {
+            return;
+        }
         ByteTag::part_all(self.byte_tags.as_mut_slice(), from, to);
         self.byte_tags.retain(|tag| tag.covers_a_byte());
     }

@@ -1,9 +1,13 @@
-use Rattle.std.proofs.Common.{sym, subst}
+use Rattle.std.proofs.Common.{sym, subst, ◌∙◌}
 use Rattle.sim_base.specs.Packet.{IsPacket}
 use Rattle.sim_base.proofs.PacketLaws.{IsPacket-cut}
 use Rattle.shared_packet.specs.Shared.{plain_packet}
 use Rattle.shared_packet.proofs.Made.{parts-cut}
+use Rattle.shared_packet.proofs.Popped.{cut-none}
 use Rattle.shared_packet.proofs.packet.SharedPktPkt.cut.Goals as goal
+
+pub returns-then-to-len : goal.returns-then-to-len
+returns-then-to-len c = cut-none (plain_packet c.args.self.now) c.args.from c.args.to c.args.self.now.valid c.if-from-eq0.true (c.if-to-len.true ∙ c.len.ensures)
 
 pub returns : goal.returns
 returns c =

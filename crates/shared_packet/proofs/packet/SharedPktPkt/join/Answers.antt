@@ -1,9 +1,10 @@
-use Rattle.std.proofs.Common.{sym, subst, ap, ◌∙◌, ◌++◌, ◌≡◌}
+use Rattle.std.proofs.Common.{refl, sym, subst, ap, ◌∙◌, ◌++◌}
 use Rattle.sim_base.specs.ByteTags.{shift}
 use Rattle.sim_base.specs.Items.{join_items}
-use Rattle.sim_base.specs.Packet.{IsPacket, len}
+use Rattle.sim_base.specs.Packet.{IsPacket}
 use Rattle.sim_base.proofs.PacketLaws.{IsPacket-join}
 use Rattle.tag_lists.specs.TagLists.{TagLists, with_byte_tags}
+use Rattle.zero_buffer.proofs.Taken.{takes_none}
 use Rattle.shared_packet.specs.Shared.{plain_packet}
 use Rattle.shared_packet.proofs.Made.{parts-join, tags_of}
 use Rattle.shared_packet.proofs.packet.SharedPktPkt.join.Goals as goal
@@ -32,3 +33,15 @@ invariant_of-self-2 c =
           (c.in_ok-join.ensures.ok ∙ ap (λ is. join_items is q.items) c.in_ok-items.ensures.ok)))
           (IsPacket-join p q c.args.self.now.valid c.args.other.now.valid c.requires);
     }
+
+pub returns-in_err-tags-clause-taken : goal.returns-in_err-tags-clause-taken
+returns-in_err-tags-clause-taken c = takes_none c.args.maker.now c.args.maker.now refl
+
+pub returns-in_err-append-clause-taken : goal.returns-in_err-append-clause-taken
+returns-in_err-append-clause-taken c = takes_none c.args.maker.now c.args.maker.now refl
+
+pub returns-in_err-items-clause-taken : goal.returns-in_err-items-clause-taken
+returns-in_err-items-clause-taken c = takes_none c.args.maker.now c.args.maker.now refl
+
+pub returns-in_err-join-clause-taken : goal.returns-in_err-join-clause-taken
+returns-in_err-join-clause-taken c = takes_none c.args.maker.now c.args.maker.now refl

@@ -1,8 +1,9 @@
-use Rattle.std.proofs.Common.{◌≡◌, sym, subst, ap, ◌∙◌, ◌++◌, length}
+use Rattle.std.proofs.Common.{refl, ◌≡◌, sym, subst, ap, ◌∙◌, ◌++◌, length}
 use Rattle.sim_base.specs.Items.{cut_items, total_left, whole}
 use Rattle.sim_base.specs.Packet.{IsPacket}
 use Rattle.sim_base.proofs.PacketLaws.{IsPacket-push_back}
 use Rattle.sim_base.proofs.PacketMade.{made-push_back}
+use Rattle.zero_buffer.proofs.Taken.{takes_none}
 use Rattle.shared_packet.specs.Shared.{plain_packet}
 use Rattle.shared_packet.proofs.Undone.{undone-back}
 use Rattle.shared_packet.proofs.Made.{parts-same}
@@ -43,3 +44,6 @@ invariant_of-self-in-Err c =
           ∙ ap (λ n. cut_items 0 n (p.items ++ whole c.args.kind (length c.args.bytes.now))) all ∙ undone-back c.args.kind (length c.args.bytes.now) p.items valid.items_left)))
           valid;
     }
+
+pub returns-in_err-push_back-clause-taken : goal.returns-in_err-push_back-clause-taken
+returns-in_err-push_back-clause-taken c = takes_none c.args.maker.now c.args.maker.now refl

@@ -1,7 +1,8 @@
-use Rattle.std.proofs.Common.{◌≡◌, ◌+◌, sym, subst, ap, ◌∙◌, length, arith}
+use Rattle.std.proofs.Common.{refl, ◌+◌, sym, subst, ap, ◌∙◌, length, arith}
 use Rattle.sim_base.specs.Items.{cut_items}
 use Rattle.sim_base.specs.Packet.{IsPacket}
 use Rattle.sim_base.proofs.PacketLaws.{IsPacket-push_front}
+use Rattle.zero_buffer.proofs.Taken.{takes_none}
 use Rattle.shared_packet.specs.Shared.{plain_packet}
 use Rattle.shared_packet.proofs.Undone.{undone-front}
 use Rattle.shared_packet.proofs.Made.{parts-push_front, parts-same}
@@ -47,3 +48,6 @@ invariant_of-self-in-Err c =
           ∙ undone-front c.args.kind n c.len-len.result p.items valid.items_left (omega (arith, cover, c.len-len.ensures)))))
           valid;
     }
+
+pub returns-in_err-push_front-clause-taken : goal.returns-in_err-push_front-clause-taken
+returns-in_err-push_front-clause-taken c = takes_none c.args.maker.now c.args.maker.now refl
