@@ -3,6 +3,7 @@
 //! the frames that each window saves, and what is counted at the end.
 #![tactic(auto)]
 
+mod rounds;
 mod run;
 mod text;
 mod windows;

@@ -4,6 +4,7 @@ ghost use Rattle.std.specs.Prelude.{◌≡◌, false};
 ghost use Rattle.scenario_form.specs.Limits.{IsWithinLimits};
 ghost use Rattle.sim_world.specs.NotBuilt.{not_built};
 
+use crate::rounds::add_rounds;
 use crate::windows::run_world;
 use pkt_face::PlainPkt;
 use scenario_form::{Scenario, read_scenario};
@@ -33,5 +34,7 @@ fn run_scenario(alloc: Global, scenario: &Scenario) -> Result<String, NoMemory>
     let Ok(world) = World::<PlainPkt>::make(alloc, scenario) else {
         return Err(NoMemory);
     };
-    run_world(alloc, world)
+    let mut told = run_world(alloc, world)?;
+    add_rounds(alloc, scenario, &mut told)?;
+    Ok(told)
 }

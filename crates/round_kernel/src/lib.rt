@@ -1,0 +1,18 @@
+//! Rounds: the groups of a cut fire their events beside each other, window by window, and what they write is what the plain
+//! run writes.
+#![tactic(auto)]
+
+mod firing;
+mod groups;
+mod handing;
+mod laws;
+mod left;
+mod network;
+mod report;
+mod round;
+mod rounds;
+mod window;
+
+pub use laws::{allowed_cuts_fit, rounds_of_groups};
+pub use network::shape_of;
+pub use rounds::run_rounds;
