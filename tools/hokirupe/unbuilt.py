@@ -32,8 +32,6 @@ def _parts(data):
         yield _small(top="groups = [[0, 1]]"), [top["groups"]], "groups"
     if data.get("routing") == "auto":
         yield _small(top='routing = "auto"'), [top["routing"]], 'routing = "auto": least-cost routes; tools/routes lists them'
-    if data.get("ascii"):
-        yield _small(top="ascii = true"), [top["ascii"]], "ascii = true: the text trace"
     for queue, keys in (("prio", ""), ("tbf", "tbf_bps = 1\ntbf_burst = 1518\n")):
         rows = [row for row in [*links, *data.get("lan", [])] if row.get("queue") == queue]
         if rows:

@@ -1,10 +1,10 @@
-//! The program: it reads a scenario from standard input. `run` runs it, and writes its capture files
-//! into the working folder and its summary to standard output; `check` writes its sizes. Where
-//! something stops it, it writes one line that says what, and ends with a status other than 0.
+//! The program: it reads a scenario from standard input. `run` runs it, and writes its captures and its
+//! text trace into the working folder and its summary to standard output; `check` writes its sizes.
+//! Where something stops it, it writes one line that says what, and ends with a status other than 0.
 #![tactic(auto)]
 
 use outside::{FolderStore, StdinSource, StdoutSink};
-use pkt_face::PlainPkt;
+use shared_packet::SharedPkt;
 use sim_base::{NodeId, Time};
 use sim_run::{Code, Refusal, Status, WordCode, WordFault, run_program};
 use std::fs::File;
@@ -53,7 +53,7 @@ fn run(rt: &HostRuntime) -> Status {
     let mut source = StdinSource::new(rt.stdin());
     let mut store = FolderStore::new(rt.alloc(), folder);
     let mut sink = StdoutSink::new(rt.stdout());
-    run_program::<PlainPkt, _, _, _>(
+    run_program::<SharedPkt, _, _, _>(
         rt.alloc(),
         &words[..words.len().min(WORDS)],
         &mut source,

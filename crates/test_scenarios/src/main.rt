@@ -1,6 +1,6 @@
 //! What the program answers to scenarios, over files in memory. Standard input has rows: a line `=== COMMAND SHOWN FAILS: TITLE`, and
 //! behind it a scenario. SHOWN says how many of the first bytes of each captured packet are written, and FAILS which call of
-//! the store fails (0: none). Of each row stand in the output its title, the answer, the files with what was captured, and the text.
+//! the store fails (0: none). Of each row stand in the output its title, the answer, the files with what was captured and told, and the text.
 #![tactic(auto)]
 
 mod capture;
@@ -46,14 +46,25 @@ fn run(alloc: Global, row: &Row) -> Result<Ran> {
     })
 }
 
-/// A file's name and length, and the packets that it holds.
+/// What a file holds: the packets of a capture, or the lines of the text trace.
+fn content(alloc: Global, name: &str, bytes: &[u8], shown: usize) -> Result<String> {
+    if name.ends_with(".pcap") {
+        return capture::text(alloc, bytes, shown);
+    }
+    let lines = String::from_utf8(Vec::from_slice(alloc, bytes)?)
+        .ok()
+        .context("a text trace is UTF-8")?;
+    Ok(lines)
+}
+
+/// A file's name and length, and what it holds.
 fn file_text(alloc: Global, file: &File, shown: usize) -> Result<String> {
     let name = String::from_utf8(Vec::from_slice(alloc, file.name.as_slice())?)
         .ok()
         .context("a name is UTF-8")?;
     let length = file.bytes.as_slice().len();
-    let packets = capture::text(alloc, file.bytes.as_slice(), shown)?;
-    Ok(format!(in alloc; "{name} {length} bytes\n{packets}")?)
+    let content = content(alloc, name.as_str(), file.bytes.as_slice(), shown)?;
+    Ok(format!(in alloc; "{name} {length} bytes\n{content}")?)
 }
 
 fn main(rt: HostRuntime) -> Result<()> {
