@@ -1,6 +1,6 @@
 //! The list of items, and what pushes, cuts and joins of the packet do to it.
 
-ghost use Rattle.std.specs.Prelude.{◌≡◌, ◌+◌, ◌-◌, ◌<◌, ◌≤◌, [], ◌++◌, length, take, drop, IfOk, IsOk, OnOk, OnErr};
+ghost use Rattle.std.specs.Prelude.{◌≡◌, ◌+◌, ◌-◌, ◌<◌, ◌≤◌, [], ◌∷◌, ◌++◌, length, take, drop, IfOk, IsOk, OnOk, OnErr};
 ghost use Rattle.sim_base.specs.Items as parts;
 ghost use Rattle.sim_base.specs.Items.{total_left};
 ghost use Rattle.sim_base.specs.Packet.{longest};
@@ -48,7 +48,7 @@ impl Meta {
         ensures inline { length (parts.whole kind size ++ self.old) ≤ INLINE → IsOk result }
     {
         if size > 0 {
-            self.items.push(Item::whole(kind, size))?;
+            put_behind(&mut self.items, Item::whole(kind, size))?;
             move_last_to_front(self.items.as_mut_slice());
         }
         Ok(())
@@ -62,7 +62,7 @@ impl Meta {
         ensures inline { length (self.old ++ parts.whole kind size) ≤ INLINE → IsOk result }
     {
         if size > 0 {
-            self.items.push(Item::whole(kind, size))?;
+            put_behind(&mut self.items, Item::whole(kind, size))?;
         }
         Ok(())
     }
@@ -112,6 +112,21 @@ impl Meta {
     {
         self.items.as_slice()
     }
+}
+
+// An item comes behind the others: in its place where there is room.
+fn put_behind(items: &mut SmallVec<Item, 8>, item: Item) -> Result<(), NoMemory>
+    ensures ok { OnOk result (items.new.items ≡ items.old.items ++ item ∷ []) }
+    ensures err { OnErr result (items.new ≡ items.old) }
+    ensures capacity { items.old.capacity ≤ items.new.capacity }
+    ensures succeeds { length items.old.items < items.old.capacity → IsOk result }
+{
+    if items.len() < items.capacity() {
+        items.push_reserved(item);
+        return Ok(());
+    }
+    items.push(item)?;
+    Ok(())
 }
 
 // The last item comes before all others.
