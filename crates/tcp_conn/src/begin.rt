@@ -84,25 +84,19 @@ impl Connection {
 
     /// Takes as many bytes as there is room for, sends what may be sent.
     #[tactic(auto, unfolding(crate::specs::Begin::writes))]
-    pub fn write(
-        &mut self,
-        alloc: Global,
-        now: Time,
-        bytes: &[u8],
-        out: &mut Vec<Effect>,
-    ) -> Result<(), NoMemory>
+    pub fn write(&mut self, now: Time, bytes: &[u8], out: &mut Vec<Effect>) -> Result<(), NoMemory>
         requires time { now.0 ≤ latest }
         requires fits { Fits self.old }
         ensures now { OnOk result (self.new ≡ (writes now.0 bytes.now self.old).now) }
         ensures effects { OnOk result (out.new.items ≡ out.old.items ++ (writes now.0 bytes.now self.old).effects) }
         ensures fits { OnOk result (Fits self.new) }
     {
-        self.fill(alloc, bytes)?;
+        self.fill(bytes)?;
         self.pump(now, out)
     }
 
     /// Takes the bytes that there is room for.
-    fn fill(&mut self, alloc: Global, bytes: &[u8]) -> Result<(), NoMemory>
+    fn fill(&mut self, bytes: &[u8]) -> Result<(), NoMemory>
         requires { Fits self.old }
         ensures now { OnOk result (self.new ≡ with_bytes bytes.now self.old) }
         ensures fits { OnOk result (Fits self.new) }
@@ -113,7 +107,7 @@ impl Connection {
         } else {
             bytes
         };
-        self.buffer.write(alloc, taken)?;
+        self.buffer.write(taken)?;
         Ok(())
     }
 

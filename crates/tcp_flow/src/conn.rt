@@ -169,7 +169,7 @@ impl Conn {
     {
         let mut effects = Vec::new(alloc);
         let _size = self.connection.reno.smss();
-        self.connection.write(alloc, now, bytes, &mut effects)?;
+        self.connection.write(now, bytes, &mut effects)?;
         self.carry_out(alloc, &effects, maker, numbers, out)
     }
 

@@ -12,7 +12,8 @@ use Rattle.tcp_stream.specs.Held.{window, in_window, taken_in, front}
 use Rattle.tcp_stream.specs.History.{Sink, Told, World, Event, CarriesWritten, IsHistory, run, happens, written_at, opened, transfer, with_segment, past, finished, delivery, is_at, fin_of}
 use Rattle.tcp_stream.specs.History.Told.{End}
 use Rattle.tcp_stream.proofs.HeldLaws.{offered, get-taken_in}
-use Rattle.tcp_stream.proofs.Runs.{slice_get-take, slice_get-drop, front-is, at_run, at-in, at-past, offered-at}
+use Rattle.tcp_stream.proofs.Front.{front-is}
+use Rattle.tcp_stream.proofs.Runs.{slice_get-take, slice_get-drop, at_run, at-in, at-past, offered-at}
 
 pub history-append : (w : World) (events more : List Event) → IsHistory w events → IsHistory (run w events) more → IsHistory w (events ++ more)
 history-append w [] more h g = g

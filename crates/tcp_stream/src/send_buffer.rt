@@ -59,13 +59,13 @@ impl SendBuffer {
     }
 
     /// Takes as many bytes as fit, and says how many. After `NoMemory` the bytes are as before.
-    pub fn write(&mut self, alloc: Global, bytes: &[u8]) -> Result<usize, NoMemory>
+    pub fn write(&mut self, bytes: &[u8]) -> Result<usize, NoMemory>
         ensures taken { IfOk result (λ taken. taken ≡ min (length bytes.now) (131072 - length self.old)) }
         ensures behind { OnOk result (self.new ≡ self.old ++ take (131072 - length self.old) bytes.now) }
         ensures unchanged { OnErr result (self.new ≡ self.old) }
     {
         let taken = first_of(bytes, self.free() as u64);
-        self.compact(alloc)?;
+        self.compact();
         self.bytes.extend_from_slice(taken)?;
         Ok(taken.len())
     }
@@ -90,15 +90,24 @@ impl SendBuffer {
         first_of(behind_first(waiting, before), n)
     }
 
-    /// Gives up what was acknowledged, where it is no shorter than what must be kept.
-    fn compact(&mut self, alloc: Global) -> Result<(), NoMemory>
+    /// Gives up what was acknowledged, where it is no shorter than what must be kept. It takes no memory.
+    fn compact(&mut self)
         ensures { self.new ≡ self.old }
     {
-        if self.start == 0 || self.start < self.bytes.len() - self.start {
-            return Ok(());
+        if self.start < self.bytes.len() - self.start {
+            return;
         }
-        self.bytes = Vec::from_slice(alloc, &self.bytes[self.start..])?;
+        remove_front(&mut self.bytes, self.start);
         self.start = 0;
-        Ok(())
     }
+}
+
+/// Gives up the first `n` bytes, and moves the others to the front.
+fn remove_front(bytes: &mut Vec<u8>, n: usize)
+    requires { n ≤ vec_len bytes.old }
+    ensures { bytes.new.items ≡ drop n bytes.old.items }
+{
+    let len = bytes.len();
+    bytes.as_mut_slice().copy_within(n..len, 0);
+    bytes.truncate(len - n);
 }

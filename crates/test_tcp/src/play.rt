@@ -54,7 +54,7 @@ fn go_on(
         Command::TimesOut { now } => connection.times_out(alloc, at(now), out)?,
         Command::Write { now, bytes } => {
             let bytes = vec![in alloc; 0; usize::from(bytes)]?;
-            connection.write(alloc, at(now), &bytes, out)?;
+            connection.write(at(now), &bytes, out)?;
         }
         Command::Close { now } => connection.close(at(now), out)?,
         _ => {}

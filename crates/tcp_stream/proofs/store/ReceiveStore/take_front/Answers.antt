@@ -2,7 +2,8 @@ use Rattle.std.proofs.Common.{◌≡◌, ◌+◌, ◌++◌, ◌∷◌, sym, ap, 
 use Rattle.std.proofs.lemmas.List.{append-nil}
 use Rattle.tcp_stream.specs.Held.{front, window}
 use Rattle.tcp_stream.specs.Pieces.{InOrder, joined, behind}
-use Rattle.tcp_stream.proofs.Runs.{order-widen, front-joined, after-front}
+use Rattle.tcp_stream.proofs.Front.{front-joined, after-front}
+use Rattle.tcp_stream.proofs.Runs.{order-widen}
 use Rattle.tcp_stream.proofs.store.ReceiveStore.take_front.Goals as goal
 
 pub invariant_of-self : goal.invariant_of-self
