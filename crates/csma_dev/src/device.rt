@@ -107,6 +107,16 @@ impl<P: Pkt> Csma<P> {
         let _rate = self.rate;
     }
 
+    /// Whether a frame's destination is this device, or everyone. A frame that isn't heard changes nothing.
+    pub fn hears(&self, frame: &P) -> bool
+        requires { 18 ≤ len (P.plain frame.now) }
+        ensures { result ≡ is_heard self.now (P.plain frame.now) }
+    {
+        let mut destination = [0; 6];
+        frame.peek(0, &mut destination);
+        destination == self.mac || destination == BROADCAST
+    }
+
     /// Takes an input, with the bus and the node's generator, and puts the acts that follow behind `out`. After
     /// `NoMemory` all are given up.
     pub fn step(
@@ -251,7 +261,7 @@ impl<P: Pkt> Csma<P> {
         ensures random { OnOk result (random.new ≡ (arrives (P.plain frame) self.old random.old).random) }
         ensures acts { OnOk result (Appends (plain_act P.plain) out.old.items out.new.items (arrives (P.plain frame) self.old random.old).acts) }
     {
-        if !self.is_for_me(&frame) {
+        if !self.hears(&frame) {
             return Ok(());
         }
         let alloc = *out.allocator();
@@ -277,16 +287,6 @@ impl<P: Pkt> Csma<P> {
         self.save(&mut frame, maker, out)?;
         out.push(lifted(frame))?;
         Ok(())
-    }
-
-    /// Whether a frame's destination is this device, or everyone.
-    fn is_for_me(&self, frame: &P) -> bool
-        requires { 18 ≤ len (P.plain frame.now) }
-        ensures { result ≡ is_heard self.now (P.plain frame.now) }
-    {
-        let mut destination = [0; 6];
-        frame.peek(0, &mut destination);
-        destination == self.mac || destination == BROADCAST
     }
 
     /// Saves a copy of the frame, where frames are traced.

@@ -57,6 +57,9 @@ impl<P: Pkt> Iface<P> {
                 if frame.len() < LAN_HEADER {
                     return Err(NoMemory);
                 }
+                if !end.device.hears(&frame) {
+                    return Ok(());
+                }
                 let acts = &mut tools.come.lan;
                 acts.clear();
                 end.device
