@@ -6,7 +6,7 @@ use Rattle.std.specs.Map.{lookup, set_value, remove_entry}
 use Rattle.std.specs.Ordering.{nat_cmp, ordering_then}
 use Rattle.std.specs.declared.cmp.Ordering.{Ordering}
 use Rattle.sim_base.specs.declared.numbers.Numbers.{Numbers}
-use Rattle.sim_base.specs.Packet.{Packet}
+use Rattle.sim_base.specs.Packet.{Packet, len}
 use Rattle.layer_words.specs.Acts.{Numbered, Stepped}
 use Rattle.layer_words.specs.Counting.{with_stamp}
 use Rattle.frag_core.specs.declared.fragment.DatagramId.{DatagramId}
@@ -14,9 +14,9 @@ use Rattle.frag_core.specs.declared.fragment.Fragment.{Fragment}
 use Rattle.frag_core.specs.declared.words.In.{In}
 use Rattle.frag_core.specs.declared.words.In.TheVariants.{Piece, Timer}
 use Rattle.frag_core.specs.declared.words.Act.{Act}
-use Rattle.frag_core.specs.declared.words.Act.TheVariants.{TimerAt, Dropped}
+use Rattle.frag_core.specs.declared.words.Act.TheVariants.{Whole, TimerAt, Dropped}
 use Rattle.frag_core.specs.Fragment.{id_of}
-use Rattle.frag_core.specs.Held.{is_refused, is_whole, put, ready, whole_of}
+use Rattle.frag_core.specs.Held.{is_refused, is_whole, most_data, put, ready, whole_of}
 use Rattle.frag_core.specs.Inside.{PlainReassembly}
 
 -- datagrams are kept in the order of source, destination, protocol and identification
@@ -124,3 +124,9 @@ AreFiled datagrams = AllByRecursion (λ e. AllByRecursion (λ f. id_of f.head �
 abbrev pub CanTake : In Packet → Type 0
 CanTake (Piece now head packet) = now.0 ≤ 2 ^ 60
 CanTake (Timer stamp) = Unit {0}
+
+-- what is handed on fits a datagram behind its header
+abbrev pub FitsDatagram : Act Packet → Type 0
+FitsDatagram (Whole head packet) = len packet ≤ most_data
+FitsDatagram (TimerAt at stamp) = Unit {0}
+FitsDatagram Dropped = Unit {0}

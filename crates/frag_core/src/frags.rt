@@ -4,7 +4,7 @@
 //!     datagrams:   (src, dst, proto, id) -> the fragments that are held, and the stamp of their timer
 //!     timers:      stamp -> (src, dst, proto, id)
 
-ghost use Rattle.std.specs.Prelude.{◌≡◌, ◌≤◌, ◌^◌, OnOk, None, replicate};
+ghost use Rattle.std.specs.Prelude.{◌≡◌, ◌≤◌, ◌^◌, All, OnOk, None, replicate};
 ghost use Rattle.std.specs.BTreeMap.{is_at};
 ghost use Rattle.std.specs.Map.{remove_entry};
 ghost use Rattle.layer_words.specs.Acts.{Appends};
@@ -42,7 +42,7 @@ impl<P: Pkt> Model for Frags<P> {
 }
 
 impl<P: Pkt> Frags<P> {
-    ghost use Rattle.frag_core.specs.Step.{CanTake, acts_of_more, comes, comes_to, fires, given_up, id_cmp, no_frags, step, under, whole_under, with_more, with_new, without};
+    ghost use Rattle.frag_core.specs.Step.{CanTake, FitsDatagram, acts_of_more, comes, comes_to, fires, given_up, id_cmp, no_frags, step, under, whole_under, with_more, with_new, without};
 
     /// A node that holds no fragment.
     pub fn make(alloc: Global) -> Frags<P>
@@ -54,8 +54,9 @@ impl<P: Pkt> Frags<P> {
         }
     }
 
-    /// Takes an input, with the node's numbers, and puts the acts that follow behind `out`. After `NoMemory` all are given
-    /// up.
+    /// Takes an input, with the node's numbers, and puts the acts that follow behind `out`. A whole datagram has at most
+    /// 65,515 bytes behind its header. After `NoMemory` all are given up.
+    #[tactic(auto, using(crate::proofs::Fitting::fires_fit))]
     pub fn step(
         &mut self,
         input: In<P>,
@@ -67,6 +68,7 @@ impl<P: Pkt> Frags<P> {
         ensures state { OnOk result (self.new ≡ (step self.old numbers.old (plain_in P.plain input)).state) }
         ensures numbers { OnOk result (numbers.new ≡ (step self.old numbers.old (plain_in P.plain input)).numbers) }
         ensures acts { OnOk result (Appends (plain_act P.plain) out.old.items out.new.items (step self.old numbers.old (plain_in P.plain input)).acts) }
+        ensures fits { OnOk result (All FitsDatagram (step self.old numbers.old (plain_in P.plain input)).acts) }
     {
         match input {
             In::Piece { now, head, packet } => {
@@ -89,6 +91,7 @@ impl<P: Pkt> Frags<P> {
         ensures state { OnOk result (self.new ≡ (comes now.0 (plain_fragment P.plain fragment) self.old numbers.old).state) }
         ensures numbers { OnOk result (numbers.new ≡ (comes now.0 (plain_fragment P.plain fragment) self.old numbers.old).numbers) }
         ensures acts { OnOk result (Appends (plain_act P.plain) out.old.items out.new.items (comes now.0 (plain_fragment P.plain fragment) self.old numbers.old).acts) }
+        ensures fits { OnOk result (All FitsDatagram (comes now.0 (plain_fragment P.plain fragment) self.old numbers.old).acts) }
     {
         let id = DatagramId::of(&fragment.head);
         if !self.datagrams.contains_key(&id) {
@@ -107,6 +110,7 @@ impl<P: Pkt> Frags<P> {
     ) -> Result<(), NoMemory>
         ensures state { OnOk result (self.new ≡ with_more (under id self.old.datagrams) id (plain_fragment P.plain fragment) self.old) }
         ensures acts { OnOk result (Appends (plain_act P.plain) out.old.items out.new.items (acts_of_more (under id self.old.datagrams) (plain_fragment P.plain fragment))) }
+        ensures fits { OnOk result (All FitsDatagram (acts_of_more (under id self.old.datagrams) (plain_fragment P.plain fragment))) }
     {
         let Some(held) = self.datagrams.get_mut(&id) else {
             return Ok(());
@@ -138,6 +142,7 @@ impl<P: Pkt> Frags<P> {
         ensures state { OnOk result (self.new ≡ (comes_to now.0 (plain_fragment P.plain fragment) None self.old numbers.old).state) }
         ensures numbers { OnOk result (numbers.new ≡ (comes_to now.0 (plain_fragment P.plain fragment) None self.old numbers.old).numbers) }
         ensures acts { OnOk result (Appends (plain_act P.plain) out.old.items out.new.items (comes_to now.0 (plain_fragment P.plain fragment) None self.old numbers.old).acts) }
+        ensures fits { OnOk result (All FitsDatagram (comes_to now.0 (plain_fragment P.plain fragment) None self.old numbers.old).acts) }
     {
         if is_misshapen(&fragment) {
             out.push(Act::Dropped)?;
@@ -165,6 +170,7 @@ impl<P: Pkt> Frags<P> {
         requires { stamp ≡ held.stamp }
         ensures state { OnOk result (self.new ≡ with_new id held self.old) }
         ensures acts { OnOk result (Appends (plain_act P.plain) out.old.items out.new.items (ready held.held)) }
+        ensures fits { OnOk result (All FitsDatagram (ready held.held)) }
     {
         if held.is_whole() {
             out.push(held.join(maker)?)?;
@@ -185,6 +191,7 @@ impl<P: Pkt> Frags<P> {
     ) -> Result<(), NoMemory>
         ensures state { OnOk result (self.new ≡ without id stamp self.old) }
         ensures acts { OnOk result (Appends (plain_act P.plain) out.old.items out.new.items (whole_under (under id self.old.datagrams))) }
+        ensures fits { OnOk result (All FitsDatagram (whole_under (under id self.old.datagrams))) }
     {
         self.timers.remove(&stamp);
         let Some(held) = self.datagrams.remove(&id) else {

@@ -38,7 +38,7 @@ with_head head packet = push_front Ipv4Item (ipv4_bytes head) packet
 
 -- a packet leaves by a way
 abbrev pub out : Way → Ipv4 → Packet → Act Packet
-out way head packet = Out way.iface (neighbour way head.dst) (with_head head packet)
+out way head packet = Out way.iface (neighbour way head.dst) way.mtu (with_head head packet)
 
 -- the next identification, modulo 2^16
 abbrev pub with_id : Numbers → Numbers
@@ -129,7 +129,7 @@ CanTake (Arrive packet) = Unit {0}
 
 -- what leaves fits a datagram with its header, and what goes up fits one without
 abbrev pub FitsDatagram : Act Packet → Type 0
-FitsDatagram (Out iface hop packet) = (20 ≤ len packet) × (len packet < 2 ^ 16)
+FitsDatagram (Out iface hop mtu packet) = (20 ≤ len packet) × (len packet < 2 ^ 16)
 FitsDatagram (Local head packet) = len packet ≤ most_data
 FitsDatagram (Report kind code head packet) = len packet ≤ most_data
 FitsDatagram Dropped = Unit {0}

@@ -32,10 +32,11 @@ pub enum In<P> {
 /// What IPv4 asks for.
 #[derive(Debug, Drop)]
 pub enum Act<P> {
-    /// Send a packet, with its header, by an interface to a neighbour.
+    /// Send a packet, with its header, by an interface to a neighbour: in fragments, where it is longer than this MTU.
     Out {
         iface: u32,
         hop: u32,
+        mtu: u32,
         packet: P,
     },
     /// Hand a packet, without its header, to its protocol, or to reassembly where it is a fragment.
@@ -268,8 +269,8 @@ fn deliver<P: Pkt>(head: Ipv4, packet: P, acts: &mut Vec<Act<P>>) -> Result<(), 
     Ok(())
 }
 
-/// Whether a header is that of a fragment.
-fn is_fragment(head: &Ipv4) -> bool
+/// Whether a header is that of a fragment: it has an offset, or more fragments follow.
+pub fn is_fragment(head: &Ipv4) -> bool
     ensures { result ≡ is_fragment head.now }
 {
     head.offset != 0 || head.flags % (2 * MORE_FRAGMENTS) == 1
@@ -298,6 +299,7 @@ fn leave<P: Pkt>(
     Ok(Act::Out {
         iface: way.iface,
         hop: way.neighbour(head.dst),
+        mtu: way.mtu,
         packet,
     })
 }
@@ -323,7 +325,8 @@ fn tell<P: Pkt>(
 }
 
 /// The header that a packet begins with.
-fn read_head<P: Pkt>(packet: &P) -> Option<Ipv4>
+#[inline(always)]
+pub fn read_head<P: Pkt>(packet: &P) -> Option<Ipv4>
     ensures value { result ≡ ipv4_of (slice_range (P.plain packet.now).bytes 0 20) }
     ensures total { IfSome result (λ head. (20 ≤ head.total) × (head.total < 2 ^ 16)) }
 {

@@ -4,5 +4,5 @@
 mod ip;
 mod routes;
 
-pub use ip::{Act, In, Ip};
+pub use ip::{Act, In, Ip, is_fragment, read_head};
 pub use routes::{Hop, Routes, Table, Way};

@@ -12,7 +12,7 @@ use Rattle.round_core.specs.Lines.{numbered}
 use Rattle.round_core.specs.World.{Limit, Does, scheduled, seen}
 use Rattle.node_step.specs.declared.loads.Event.{Event}
 use Rattle.node_step.specs.declared.loads.Load.{Load}
-use Rattle.node_step.specs.declared.loads.Load.TheVariants.{Arrive, Sent, BusFree, BackoffOver, DiscReady, ArpTimer, TcpTimer, Tick}
+use Rattle.node_step.specs.declared.loads.Load.TheVariants.{Arrive, Sent, BusFree, BackoffOver, DiscReady, ArpTimer, FragTimer, TcpTimer, Tick}
 use Rattle.node_step.specs.Firing.{Request, Text, bus_at}
 use Rattle.node_step.specs.Firing as firing
 use Rattle.node_step.specs.Node.{PlainNode, Progress}
@@ -24,7 +24,8 @@ use Rattle.node_rules.specs.Rules.{buses, effect_of, reaction_of, rules, send_of
 use Rattle.node_rules.specs.Shape.{Shape, Wire, least_on, sits_on}
 use Rattle.node_rules.specs.Worlds.{event_of}
 use Rattle.node_rules.proofs.Folds.{slice_get-some}
-use Rattle.node_rules.proofs.Frames.{AllPass, IsFramed, handled-framed, mask}
+use Rattle.node_rules.proofs.Frames.{AllPass, IsFramed, mask}
+use Rattle.node_rules.proofs.FramesUp.{handled-framed}
 use Rattle.node_rules.proofs.IfaceKeeps.{least-wire}
 use Rattle.node_rules.proofs.Masks.{Passes, bus_at-joined, buses-seen, length-joined, masked, others}
 use Rattle.node_rules.proofs.ReactKeeps.{progress, progress-keeps}
@@ -185,6 +186,7 @@ can-handle shape n node (BusFree iface) w h = subst (λ (k : ℕ). iface < k) (s
 can-handle shape n node (BackoffOver iface) w h = subst (λ (k : ℕ). iface < k) (sym w.ifaces) h
 can-handle shape n node (DiscReady iface) w h = subst (λ (k : ℕ). iface < k) (sym w.ifaces) h
 can-handle shape n node (ArpTimer iface addr stamp) w h = subst (λ (k : ℕ). iface < k) (sym w.ifaces) h
+can-handle shape n node (FragTimer stamp) w h = tt
 can-handle shape n node (TcpTimer conn stamp) w h = tt
 can-handle shape n node (Tick app) w h = subst (λ (k : ℕ). app < k) (sym w.apps) h
 

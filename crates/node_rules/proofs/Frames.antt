@@ -1,17 +1,15 @@
 -- A firing reads and writes no bus but those on which its node sits.
 use Rattle.std.proofs.Common.{◌≡◌, ℕ, Bool, true, false, List, [], ◌∷◌, Option, None, Some, slice_get, slice_set, refl, sym, ap, ◌∙◌, subst, inl, inr}
-use Rattle.std.specs.Prelude.{◌==◌, fold, if◌then◌else◌}
+use Rattle.std.specs.Prelude.{fold, nat_lt, if◌then◌else◌}
 use Rattle.std.proofs.lemmas.Bool.{cases_eq}
 use Rattle.std.proofs.lemmas.Option.{same_Some}
 use Rattle.sim_base.specs.declared.time.Time.{Time}
-use Rattle.sim_base.specs.Packet.{Packet}
+use Rattle.sim_base.specs.Packet.{Packet, len}
 use Rattle.csma_dev.specs.declared.bus.Bus.{Bus}
-use Rattle.header_forms.specs.declared.ipv4.Ipv4.{Ipv4}
 use Rattle.layer_words.specs.Acts.{Made, Numbered}
 use Rattle.iface_step.specs.declared.words.Act.{Act as IfaceAct}
 use Rattle.iface_step.specs.declared.words.Act.TheVariants.{Schedule, Write, Up, Dropped as DroppedBelow}
 use Rattle.iface_step.specs.declared.words.Happening.{Happening}
-use Rattle.iface_step.specs.declared.words.Happening.TheVariants.{Arrive as Arrives, Sent as HasLeft, BusFree as BusIsFree, BackoffOver as BackoffIsOver, DiscReady as DiscIsReady, ArpTimer as ArpTimerEnds}
 use Rattle.iface_step.specs.declared.words.In.{In as IfaceIn}
 use Rattle.iface_step.specs.declared.words.In.TheVariants.{Send, Happens}
 use Rattle.iface_step.specs.Attachment.{lan_of}
@@ -21,36 +19,31 @@ use Rattle.iface_step.specs.Transit.{Progress as IfaceProgress}
 use Rattle.ipv4_core.specs.declared.ip.Act.{Act as IpAct}
 use Rattle.ipv4_core.specs.declared.ip.Act.TheVariants.{Out, Local, Report as ReportByIp, Dropped as DroppedByIp}
 use Rattle.ipv4_core.specs.declared.ip.In.{In as IpIn}
-use Rattle.ipv4_core.specs.declared.ip.In.TheVariants.{Send as SendByIp, Arrive as ArriveAtIp}
+use Rattle.ipv4_core.specs.declared.ip.In.TheVariants.{Send as SendByIp}
 use Rattle.ipv4_core.specs.declared.routes.Hop.{Hop}
-use Rattle.ipv4_core.specs.Ip.{is_fragment, step as ip_step}
+use Rattle.ipv4_core.specs.Ip.{step as ip_step}
 use Rattle.ipv4_core.specs.Routes.{hop, route, source}
 use Rattle.udp_icmp.specs.declared.ports.Act.{Act as PortsAct}
 use Rattle.udp_icmp.specs.declared.ports.Act.TheVariants.{ToIp, ToApp, Report as ReportByPorts, Dropped}
 use Rattle.udp_icmp.specs.declared.ports.In.{In as PortsIn}
-use Rattle.udp_icmp.specs.declared.ports.In.TheVariants.{UdpArrive, IcmpArrive, Report, UdpSend as SendDatagram, PingSend as SendRequest}
+use Rattle.udp_icmp.specs.declared.ports.In.TheVariants.{UdpSend as SendDatagram, PingSend as SendRequest}
 use Rattle.udp_icmp.specs.Step.{step as ports_step}
 use Rattle.tcp_flow.specs.declared.words.Act.{Act as ConnsAct}
 use Rattle.tcp_flow.specs.declared.words.Act.TheVariants.{Emit, TimerAt, Connected, Room, Deliver, End, Reset, Dropped as DroppedByConns}
 use Rattle.tcp_flow.specs.declared.words.In.{In as ConnsIn}
-use Rattle.tcp_flow.specs.declared.words.In.TheVariants.{Connect as OpenConnection, Segment, Timer, Write as WriteBytes, Close as CloseConnection}
+use Rattle.tcp_flow.specs.declared.words.In.TheVariants.{Connect as OpenConnection, Write as WriteBytes, Close as CloseConnection}
 use Rattle.tcp_flow.specs.Conns.{PlainConns, step as conns_step}
 use Rattle.traffic_apps.specs.declared.app.Act.{Act as AppAct}
 use Rattle.traffic_apps.specs.declared.app.Act.TheVariants.{UdpSend, PingSend, TickAt, Connect, Write as WriteStream, Close}
 use Rattle.traffic_apps.specs.declared.app.In.{In as AppIn}
-use Rattle.traffic_apps.specs.declared.app.In.TheVariants.{Tick as TickInput, Got, Connected as IsConnected, Room as HasRoom, End as HasEnded, Reset as IsReset}
-use Rattle.node_step.specs.declared.loads.Load.{Load}
-use Rattle.node_step.specs.declared.loads.Load.TheVariants.{Arrive, Sent, BusFree, BackoffOver, DiscReady, ArpTimer, TcpTimer, Tick}
 use Rattle.node_step.specs.Apps.{app_counts, app_takes, carry_app, counted_app, stepped_app}
 use Rattle.node_step.specs.Asking.{carry_asked, conns_ask}
 use Rattle.node_step.specs.Down.{IfaceStepped, carry_down, send_packet, step_at, taken_by, with_iface}
 use Rattle.node_step.specs.Firing.{bus_of}
-use Rattle.node_step.specs.Hearing.{carry_heard, conns_hear}
+use Rattle.node_step.specs.Leaving.{fragments_of, leaves, send_each, send_out}
 use Rattle.node_step.specs.LocalApp.{PlainLocalApp, app_step}
 use Rattle.node_step.specs.Node.{Progress, changed, dropped, now, with_app, with_conns, with_drop, with_numbers}
-use Rattle.node_step.specs.React.{handled}
 use Rattle.node_step.specs.Sending.{carry_sent, carry_to_ip, ip_sends, ports_send, report, report_by}
-use Rattle.node_step.specs.Up.{carry_ip, carry_ports, carry_up, deliver, iface_happens, ip_takes, ports_take}
 use Rattle.node_rules.specs.Shape.{Wire}
 use Rattle.node_rules.proofs.Folds.{slice_get-set_other, slice_get-set_same}
 use Rattle.node_rules.proofs.IfaceSteps.{happens-goes, send-goes}
@@ -98,14 +91,14 @@ module _ (test : ℕ → Bool) where
   abbrev F : (Progress → Progress) → Progress → Type 0
   F stage p = IsFramed test stage p
 
-  still : (p : Progress) → On p → F (λ q. q) p
+  pub still : (p : Progress) → On p → F (λ q. q) p
   still p on = record { reads = refl; writes = refl; pass = on }
 
-  drops : (p : Progress) → On p → F dropped p
+  pub drops : (p : Progress) → On p → F dropped p
   unfolding with_drop
   drops p on = record { reads = refl; writes = refl; pass = on }
 
-  folds : {Act : Type 0} (carry : Progress → Act → Progress) → ((p : Progress) (act : Act) → On p → F (λ q. carry q act) p) →
+  pub folds : {Act : Type 0} (carry : Progress → Act → Progress) → ((p : Progress) (act : Act) → On p → F (λ q. carry q act) p) →
       (acts : List Act) (p : Progress) → On p → F (λ q. fold carry q acts) p
   folds carry each [] p on = still p on
   folds carry each (act ∷ acts) p on =
@@ -116,6 +109,10 @@ module _ (test : ℕ → Bool) where
         writes = rest.writes ∙ first.writes;
         pass = rest.pass;
       }
+
+  pub either : (b : Bool) (f g : Progress → Progress) (p : Progress) → F f p → F g p → F (λ q. if b then f q else g q) p
+  either true f g p first second = record { reads = first.reads; writes = first.writes; pass = first.pass }
+  either false f g p first second = record { reads = second.reads; writes = second.writes; pass = second.pass }
 
   -- an interface makes a step
 
@@ -154,7 +151,7 @@ module _ (test : ℕ → Bool) where
     some-framed (Some face) at same = face-framed face at (same face)
 
     -- what an interface asks for is carried out
-    carries : (carry : Progress → IfaceAct Packet → Progress) → ((q : Progress) (act : IfaceAct Packet) → On q → F (λ r. carry r act) q) →
+    pub carries : (carry : Progress → IfaceAct Packet → Progress) → ((q : Progress) (act : IfaceAct Packet) → On q → F (λ r. carry r act) q) →
         ((face : PlainIface) → lan_of (stepping face).iface.at ≡ lan_of face.at) →
         F (λ q. let s : IfaceStepped = step_at iface input q in fold carry s.progress s.acts) p
     unfolding step_at
@@ -171,7 +168,7 @@ module _ (test : ℕ → Bool) where
 
   -- the way down
 
-  carry_down-framed : (iface : ℕ) (p : Progress) (act : IfaceAct Packet) → On p → F (λ q. carry_down iface q act) p
+  pub carry_down-framed : (iface : ℕ) (p : Progress) (act : IfaceAct Packet) → On p → F (λ q. carry_down iface q act) p
   unfolding carry_down
   carry_down-framed iface p (Schedule at to what) on = record { reads = refl; writes = refl; pass = on }
   carry_down-framed iface p (Write sign frame) on = record { reads = refl; writes = refl; pass = on }
@@ -183,7 +180,7 @@ module _ (test : ℕ → Bool) where
   send-same p t h packet face = ap (λ (w : Wire). w.lan)
       (send-goes ⊥ t face p.node.numbers (bus_of (lan_of face.at) p.firing.lans) p.node.random (λ no. absurd no) h packet).moves.wire
 
-  happens-same : (p : Progress) (t : Time) (what : Happening Packet) (face : PlainIface) →
+  pub happens-same : (p : Progress) (t : Time) (what : Happening Packet) (face : PlainIface) →
       lan_of (step face (bus_of (lan_of face.at) p.firing.lans) p.node.random p.node.numbers (Happens t what)).iface.at ≡ lan_of face.at
   happens-same p t what face = ap (λ (w : Wire). w.lan)
       (happens-goes ⊥ t face p.node.numbers (bus_of (lan_of face.at) p.firing.lans) p.node.random (λ no. absurd no) what).moves.wire
@@ -194,14 +191,22 @@ module _ (test : ℕ → Bool) where
       let done = carries iface (Send (now p) h packet) p on (carry_down iface) (carry_down-framed iface) (send-same p (now p) h packet) in
       record { reads = done.reads; writes = done.writes; pass = done.pass }
 
+  pub send_out-framed : (iface h mtu : ℕ) (packet : Packet) (p : Progress) → On p → F (send_out iface h mtu packet) p
+  unfolding send_out
+  send_out-framed iface h mtu packet p on =
+      let done = either (nat_lt mtu (len packet)) (send_each iface h (fragments_of mtu packet)) (send_packet iface h packet) p
+      (folds (leaves iface h) (λ q fragment still_on. send_packet-framed iface h fragment q still_on) (fragments_of mtu packet) p on)
+      (send_packet-framed iface h packet p on) in
+      record { reads = done.reads; writes = done.writes; pass = done.pass }
+
   carry_sent-framed : (p : Progress) (act : IpAct Packet) → On p → F (λ q. carry_sent q act) p
   unfolding carry_sent
-  carry_sent-framed p (Out iface neighbour packet) on = send_packet-framed iface neighbour packet p on
+  carry_sent-framed p (Out iface neighbour mtu packet) on = send_out-framed iface neighbour mtu packet p on
   carry_sent-framed p (Local head packet) on = still p on
   carry_sent-framed p (ReportByIp kind code head packet) on = still p on
   carry_sent-framed p DroppedByIp on = drops p on
 
-  ip_sends-framed : (input : IpIn Packet) (p : Progress) → On p → F (ip_sends input) p
+  pub ip_sends-framed : (input : IpIn Packet) (p : Progress) → On p → F (ip_sends input) p
   unfolding ip_sends
   ip_sends-framed input p on =
       let made : Made (IpAct Packet) = ip_step p.node.ip p.node.numbers input in
@@ -226,7 +231,7 @@ module _ (test : ℕ → Bool) where
   report_by-framed input None p on = still p on
   report_by-framed input (Some way_back) p on = ports_send-framed input p on
 
-  report-framed : (src : ℕ) (input : PortsIn Packet) (p : Progress) → On p → F (report src input) p
+  pub report-framed : (src : ℕ) (input : PortsIn Packet) (p : Progress) → On p → F (report src input) p
   unfolding report
   report-framed src input p on =
       let done = report_by-framed input (hop src (route src p.node.ip.routes)) p on in
@@ -234,7 +239,7 @@ module _ (test : ℕ → Bool) where
 
   -- what is asked of TCP
 
-  carry_asked-framed : (p : Progress) (act : ConnsAct Packet) → On p → F (λ q. carry_asked q act) p
+  pub carry_asked-framed : (p : Progress) (act : ConnsAct Packet) → On p → F (λ q. carry_asked q act) p
   unfolding carry_asked
   carry_asked-framed p (Emit s) on = ip_sends-framed (SendByIp (Some s.src) s.dst 6 s.packet) p on
   carry_asked-framed p (TimerAt at conn stamp) on = record { reads = refl; writes = refl; pass = on }
@@ -283,7 +288,7 @@ module _ (test : ℕ → Bool) where
       let done = stepped_app-framed app (app_step a p.node.numbers input) p on in
       record { reads = done.reads; writes = done.writes; pass = done.pass }
 
-  app_takes-framed : (app : ℕ) (input : AppIn Packet) (p : Progress) → On p → F (app_takes app input) p
+  pub app_takes-framed : (app : ℕ) (input : AppIn Packet) (p : Progress) → On p → F (app_takes app input) p
   unfolding app_takes
   app_takes-framed app input p on =
       let done = app-framed app input (slice_get p.node.apps app) p on in
@@ -294,106 +299,8 @@ module _ (test : ℕ → Bool) where
   counts-framed app input None p on = still p on
   counts-framed app input (Some a) p on = record { reads = refl; writes = refl; pass = on }
 
-  app_counts-framed : (app : ℕ) (input : AppIn Packet) (p : Progress) → On p → F (app_counts app input) p
+  pub app_counts-framed : (app : ℕ) (input : AppIn Packet) (p : Progress) → On p → F (app_counts app input) p
   unfolding app_counts
   app_counts-framed app input p on =
       let done = counts-framed app input (slice_get p.node.apps app) p on in
-      record { reads = done.reads; writes = done.writes; pass = done.pass }
-
-  -- what TCP hears
-
-  carry_heard-framed : (p : Progress) (act : ConnsAct Packet) → On p → F (λ q. carry_heard q act) p
-  unfolding carry_heard
-  carry_heard-framed p (Emit s) on = carry_asked-framed p (Emit s) on
-  carry_heard-framed p (TimerAt at conn stamp) on = carry_asked-framed p (TimerAt at conn stamp) on
-  carry_heard-framed p (Connected app) on = app_takes-framed app IsConnected p on
-  carry_heard-framed p (Room app free) on = app_takes-framed app (HasRoom free) p on
-  carry_heard-framed p (Deliver app src sport packet) on = app_counts-framed app (Got src sport packet) p on
-  carry_heard-framed p (End app) on = app_takes-framed app HasEnded p on
-  carry_heard-framed p (Reset app) on = app_takes-framed app IsReset p on
-  carry_heard-framed p DroppedByConns on = carry_asked-framed p DroppedByConns on
-
-  conns_hear-framed : (input : ConnsIn Packet) (p : Progress) → On p → F (conns_hear input) p
-  unfolding conns_hear
-  conns_hear-framed input p on =
-      let s : Numbered PlainConns (ConnsAct Packet) = conns_step p.node.conns p.node.numbers input in
-      let done = folds carry_heard carry_heard-framed s.acts (with_numbers s.numbers (with_conns s.state p)) on in
-      record { reads = done.reads; writes = done.writes; pass = done.pass }
-
-  -- the way up
-
-  carry_ports-framed : (p : Progress) (act : PortsAct Packet) → On p → F (λ q. carry_ports q act) p
-  unfolding carry_ports
-  carry_ports-framed p (ToIp src dst proto packet) on = ip_sends-framed (SendByIp src dst proto packet) p on
-  carry_ports-framed p (ToApp app src sport packet) on = app_takes-framed app (Got src sport packet) p on
-  carry_ports-framed p (ReportByPorts kind code head packet) on = report-framed head.src (Report kind code head packet) p on
-  carry_ports-framed p Dropped on = drops p on
-
-  ports_take-framed : (input : PortsIn Packet) (p : Progress) → On p → F (ports_take input) p
-  unfolding ports_take
-  ports_take-framed input p on =
-      let made : Made (PortsAct Packet) = ports_step p.node.ports p.node.numbers input in
-      let done = folds carry_ports carry_ports-framed made.acts (with_numbers made.numbers p) on in
-      record { reads = done.reads; writes = done.writes; pass = done.pass }
-
-  either : (b : Bool) (f g : Progress → Progress) (p : Progress) → F f p → F g p → F (λ q. if b then f q else g q) p
-  either true f g p first second = record { reads = first.reads; writes = first.writes; pass = first.pass }
-  either false f g p first second = record { reads = second.reads; writes = second.writes; pass = second.pass }
-
-  deliver-framed : (head : Ipv4) (packet : Packet) (p : Progress) → On p → F (deliver head packet) p
-  unfolding deliver
-  deliver-framed head packet p on =
-      let icmp : Progress → Progress = λ q. if head.proto == 1 then ports_take (IcmpArrive head packet) q else dropped q in
-      let segment : Progress → ConnsIn Packet = λ q. Segment (now q) (record { src = head.src; dst = head.dst; packet = packet }) in
-      let hears : Progress → Progress = λ q. conns_hear (segment q) q in
-      let heard = conns_hear-framed (segment p) p on in
-      let tcp : Progress → Progress = λ q. if head.proto == 6 then hears q else icmp q in
-      let whole : Progress → Progress = λ q. if head.proto == 17 then ports_take (UdpArrive head packet) q else tcp q in
-      let done = either (is_fragment head) dropped whole p (drops p on)
-      (either (head.proto == 17) (ports_take (UdpArrive head packet)) tcp p (ports_take-framed (UdpArrive head packet) p on)
-      (either (head.proto == 6) hears icmp p (record { reads = heard.reads; writes = heard.writes; pass = heard.pass })
-      (either (head.proto == 1) (ports_take (IcmpArrive head packet)) dropped p (ports_take-framed (IcmpArrive head packet) p on) (drops p on)))) in
-      record { reads = done.reads; writes = done.writes; pass = done.pass }
-
-  carry_ip-framed : (p : Progress) (act : IpAct Packet) → On p → F (λ q. carry_ip q act) p
-  unfolding carry_ip
-  carry_ip-framed p (Out iface neighbour packet) on = send_packet-framed iface neighbour packet p on
-  carry_ip-framed p (Local head packet) on = deliver-framed head packet p on
-  carry_ip-framed p (ReportByIp kind code head packet) on = report-framed head.src (Report kind code head packet) p on
-  carry_ip-framed p DroppedByIp on = drops p on
-
-  ip_takes-framed : (input : IpIn Packet) (p : Progress) → On p → F (ip_takes input) p
-  unfolding ip_takes
-  ip_takes-framed input p on =
-      let made : Made (IpAct Packet) = ip_step p.node.ip p.node.numbers input in
-      let done = folds carry_ip carry_ip-framed made.acts (with_numbers made.numbers p) on in
-      record { reads = done.reads; writes = done.writes; pass = done.pass }
-
-  carry_up-framed : (iface : ℕ) (p : Progress) (act : IfaceAct Packet) → On p → F (λ q. carry_up iface q act) p
-  unfolding carry_up
-  carry_up-framed iface p (Schedule at to what) on = carry_down-framed iface p (Schedule at to what) on
-  carry_up-framed iface p (Write sign frame) on = carry_down-framed iface p (Write sign frame) on
-  carry_up-framed iface p (Up packet) on = ip_takes-framed (ArriveAtIp packet) p on
-  carry_up-framed iface p DroppedBelow on = carry_down-framed iface p DroppedBelow on
-
-  iface_happens-framed : (iface : ℕ) (what : Happening Packet) (p : Progress) → On p → F (iface_happens iface what) p
-  unfolding iface_happens
-  iface_happens-framed iface what p on =
-      let done = carries iface (Happens (now p) what) p on (carry_up iface) (carry_up-framed iface) (happens-same p (now p) what) in
-      record { reads = done.reads; writes = done.writes; pass = done.pass }
-
-  -- the whole reaction
-  pub handled-framed : (load : Load Packet) (p : Progress) → On p → F (handled load) p
-  unfolding handled
-  handled-framed (Arrive iface frame) p on = iface_happens-framed iface (Arrives frame) p on
-  handled-framed (Sent iface) p on = iface_happens-framed iface HasLeft p on
-  handled-framed (BusFree iface) p on = iface_happens-framed iface BusIsFree p on
-  handled-framed (BackoffOver iface) p on = iface_happens-framed iface BackoffIsOver p on
-  handled-framed (DiscReady iface) p on = iface_happens-framed iface DiscIsReady p on
-  handled-framed (ArpTimer iface addr stamp) p on = iface_happens-framed iface (ArpTimerEnds addr stamp) p on
-  handled-framed (TcpTimer conn stamp) p on =
-      let done = conns_hear-framed (Timer (now p) conn stamp) p on in
-      record { reads = done.reads; writes = done.writes; pass = done.pass }
-  handled-framed (Tick app) p on =
-      let done = app_takes-framed app (TickInput (now p)) p on in
       record { reads = done.reads; writes = done.writes; pass = done.pass }

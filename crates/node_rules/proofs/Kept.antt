@@ -13,6 +13,7 @@ use Rattle.iface_step.specs.declared.words.Place.{Place}
 use Rattle.iface_step.specs.Iface.{PlainIface}
 use Rattle.iface_step.specs.Transit.{Progress as IfaceProgress}
 use Rattle.traffic_apps.specs.App.{IsKind}
+use Rattle.frag_core.specs.Step.{PlainFrags}
 use Rattle.tcp_flow.specs.Conns.{PlainConns}
 use Rattle.tcp_flow.specs.Table.{AllWait}
 use Rattle.round_core.proofs.ListLaws.{all-snoc}
@@ -20,7 +21,7 @@ use Rattle.node_step.specs.declared.loads.Load.{Load}
 use Rattle.node_step.specs.Down.{with_iface}
 use Rattle.node_step.specs.Firing.{Request, schedule, write}
 use Rattle.node_step.specs.LocalApp.{PlainLocalApp}
-use Rattle.node_step.specs.Node.{PlainNode, Progress, changed, dropped, with_app, with_conns, with_drop, with_firing, with_numbers}
+use Rattle.node_step.specs.Node.{PlainNode, Progress, changed, dropped, with_app, with_conns, with_drop, with_firing, with_frags, with_numbers}
 use Rattle.node_rules.specs.Health.{IsFor, IsNeighbour, IsWellIface, IsWellNode}
 use Rattle.node_rules.specs.Shape.{Shape, Wire}
 use Rattle.node_rules.proofs.Folds.{slice_get-set_same, slice_get-set_other}
@@ -96,6 +97,10 @@ module _ (ok : Type 0) (shape : Shape) (n : ℕ) (was : Progress) where
         each_app = w.each_app;
         waits = wait w.waits;
       }) k
+
+  pub frags-keep : (frags : PlainFrags) (p : Progress) → K p → K (with_frags frags p)
+  frags-keep frags p k = node-keeps (record p.node { frags = frags }) p refl refl
+      (λ w. record { number = w.number; ifaces = w.ifaces; apps = w.apps; each_iface = w.each_iface; each_app = w.each_app; waits = w.waits }) k
 
   pub drop-keeps : (p : Progress) → K p → K (dropped p)
   unfolding with_drop

@@ -5,12 +5,13 @@ use Rattle.sim_base.specs.declared.time.Time.{Time}
 use Rattle.sim_base.specs.Packet.{Packet}
 use Rattle.csma_dev.specs.declared.bus.Bus.{Bus}
 use Rattle.iface_step.specs.declared.words.Happening.TheVariants.{Arrive as Arrives, Sent as HasLeft, BusFree as BusIsFree, BackoffOver as BackoffIsOver, DiscReady as DiscIsReady, ArpTimer as ArpTimerEnds}
+use Rattle.frag_core.specs.declared.words.In.TheVariants.{Timer as FragsTimer}
 use Rattle.tcp_flow.specs.declared.words.In.TheVariants.{Timer}
 use Rattle.traffic_apps.specs.declared.app.In.TheVariants.{Tick as TickInput}
 use Rattle.traffic_apps.proofs.StepLaws.{step_is_later}
 use Rattle.node_step.specs.declared.loads.Event.{Event}
 use Rattle.node_step.specs.declared.loads.Load.{Load}
-use Rattle.node_step.specs.declared.loads.Load.TheVariants.{Arrive, Sent, BusFree, BackoffOver, DiscReady, ArpTimer, TcpTimer, Tick}
+use Rattle.node_step.specs.declared.loads.Load.TheVariants.{Arrive, Sent, BusFree, BackoffOver, DiscReady, ArpTimer, FragTimer, TcpTimer, Tick}
 use Rattle.node_step.specs.Apps.{app_takes}
 use Rattle.node_step.specs.Node.{PlainNode, Progress, now as now_of}
 use Rattle.node_step.specs.React.{begun, handled}
@@ -19,6 +20,7 @@ use Rattle.node_rules.specs.Shape.{Shape}
 use Rattle.node_rules.proofs.AppKeeps.{app_takes-keeps}
 use Rattle.node_rules.proofs.HearingKeeps.{conns_hear-keeps}
 use Rattle.node_rules.proofs.Kept.{Keeps}
+use Rattle.node_rules.proofs.ReassemblyKeeps.{frags_take-keeps}
 use Rattle.node_rules.proofs.UpKeeps.{iface_happens-keeps}
 
 handled-keeps : (ok : Type 0) (shape : Shape) (n : ℕ) → (ok → n < shape.nodes) → (was : Progress) (load : Load Packet) (p : Progress) →
@@ -31,6 +33,7 @@ handled-keeps ok shape n known was (BackoffOver iface) p k = iface_happens-keeps
 handled-keeps ok shape n known was (DiscReady iface) p k = iface_happens-keeps ok shape n known was iface DiscIsReady p k
 handled-keeps ok shape n known was (ArpTimer iface addr stamp) p k =
     iface_happens-keeps ok shape n known was iface (ArpTimerEnds addr stamp) p k
+handled-keeps ok shape n known was (FragTimer stamp) p k = frags_take-keeps ok shape n known was (FragsTimer stamp) p tt k
 handled-keeps ok shape n known was (TcpTimer conn stamp) p k =
     conns_hear-keeps ok shape n known was (Timer (now_of p) conn stamp) p (ap (λ (key : Key). key.time.0) k.key) k
 handled-keeps ok shape n known was (Tick app) p k =

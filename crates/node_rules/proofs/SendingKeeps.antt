@@ -28,9 +28,9 @@ use Rattle.udp_icmp.specs.Step.{step as ports_step}
 use Rattle.node_step.specs.Node.{Progress, with_numbers}
 use Rattle.node_step.specs.Sending.{carry_sent, ip_sends, carry_to_ip, ports_send, report_by, report}
 use Rattle.node_rules.specs.Shape.{Shape}
-use Rattle.node_rules.proofs.DownKeeps.{send_packet-keeps}
 use Rattle.node_rules.proofs.Folds.{fold-keeps_all}
 use Rattle.node_rules.proofs.Kept.{Keeps, drop-keeps, numbers-keep}
+use Rattle.node_rules.proofs.LeavingKeeps.{send_out-keeps}
 
 sent-node : (numbers : Numbers) (src : Option ℕ) (dst proto : ℕ) (packet : Packet) (way : Option Way) →
     (sent numbers src dst proto packet way).numbers.node ≡ numbers.node
@@ -75,7 +75,7 @@ module _ (ok : Type 0) (shape : Shape) (n : ℕ) (known : ok → n < shape.nodes
 
   carry_sent-keeps : (act : IpAct Packet) (p : Progress) → K p → K (carry_sent p act)
   unfolding carry_sent
-  carry_sent-keeps (Out iface neighbour packet) p k = send_packet-keeps ok shape n known was iface neighbour packet p k
+  carry_sent-keeps (Out iface neighbour mtu packet) p k = send_out-keeps ok shape n known was iface neighbour mtu packet p k
   carry_sent-keeps (Local head packet) p k = k
   carry_sent-keeps (ReportByIp kind code head packet) p k = k
   carry_sent-keeps DroppedByIp p k = drop-keeps ok shape n was p k

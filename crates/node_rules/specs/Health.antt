@@ -15,12 +15,13 @@ use Rattle.traffic_apps.specs.App.{IsKind}
 use Rattle.round_core.specs.Laws.{Health}
 use Rattle.round_core.specs.World.{Event}
 use Rattle.node_step.specs.declared.loads.Load.{Load}
-use Rattle.node_step.specs.declared.loads.Load.TheVariants.{Arrive, Sent, BusFree, BackoffOver, DiscReady, ArpTimer, TcpTimer, Tick}
+use Rattle.node_step.specs.declared.loads.Load.TheVariants.{Arrive, Sent, BusFree, BackoffOver, DiscReady, ArpTimer, FragTimer, TcpTimer, Tick}
 use Rattle.node_step.specs.LocalApp.{PlainLocalApp}
 use Rattle.node_step.specs.Node.{PlainNode}
 use Rattle.node_rules.specs.Shape.{Shape, Wire, least_on, sits_on, wire_of}
 
--- what an event brings is for an interface or an application that the node has, or for TCP, and a frame has its header and trailer
+-- what an event brings is for an interface or an application that the node has, for reassembly or for TCP, and a frame has its
+-- header and trailer
 abbrev pub IsFor : Shape → ℕ → Load Packet → Type 0
 IsFor shape node (Arrive iface frame) = IsSomeAnd (slice_get (shape.wires node) iface) (λ wire. least_on wire.lan ≤ len frame)
 IsFor shape node (Sent iface) = iface < length (shape.wires node)
@@ -28,6 +29,7 @@ IsFor shape node (BusFree iface) = iface < length (shape.wires node)
 IsFor shape node (BackoffOver iface) = iface < length (shape.wires node)
 IsFor shape node (DiscReady iface) = iface < length (shape.wires node)
 IsFor shape node (ArpTimer iface addr stamp) = iface < length (shape.wires node)
+IsFor shape node (FragTimer stamp) = Unit {0}
 IsFor shape node (TcpTimer conn stamp) = Unit {0}
 IsFor shape node (Tick app) = app < shape.apps node
 

@@ -6,6 +6,7 @@ use Rattle.sim_base.specs.Packet.{Packet}
 use Rattle.csma_dev.specs.declared.bus.Bus.{Bus}
 use Rattle.round_core.specs.Opening.{HaveOwnKeys, opening}
 use Rattle.round_core.specs.World.{Event, World}
+use Rattle.frag_core.specs.Step.{no_frags}
 use Rattle.tcp_flow.specs.Conns.{no_conns}
 use Rattle.node_step.specs.declared.loads.Event.{Event as NodeEvent}
 use Rattle.node_step.specs.declared.loads.Load.{Load}
@@ -19,6 +20,7 @@ abbrev pub no_node : ℕ → PlainNode
 no_node n = record {
   ifaces = [];
   ip = record { routes = []; own = [] };
+  frags = no_frags;
   ports = record { udp = []; pings = [] };
   conns = no_conns;
   apps = [];

@@ -1,5 +1,6 @@
 pub mod Numbering
 pub mod Fits
+pub mod Fragmenting
 pub mod PartLaws
 pub mod ReactLaws
 pub mod Stages

@@ -6,6 +6,10 @@ use Rattle.sim_base.specs.declared.numbers.Numbers.{Numbers}
 use Rattle.sim_base.specs.declared.time.Time.{Time}
 use Rattle.sim_base.specs.Packet.{Packet}
 use Rattle.layer_words.specs.Acts.{Appends}
+use Rattle.frag_core.specs.declared.words.Act.{Act as FragsAct}
+use Rattle.frag_core.specs.declared.words.Act.TheVariants.{TimerAt as FragTimerAt}
+use Rattle.frag_core.specs.declared.words.In.{In as FragsIn}
+use Rattle.frag_core.specs.Step.{PlainFrags, step as frags_step}
 use Rattle.ipv4_core.specs.declared.ip.Act.{Act as IpAct}
 use Rattle.ipv4_core.specs.declared.ip.In.{In as IpIn}
 use Rattle.ipv4_core.specs.Ip.{step as ip_step}
@@ -22,12 +26,14 @@ use Rattle.traffic_apps.specs.declared.app.In.{In as AppIn}
 use Rattle.node_step.specs.Apps.{app_counts, app_takes, carry_app, counted_app, stepped_app}
 use Rattle.node_step.specs.Asking.{carry_asked, conns_ask}
 use Rattle.node_step.specs.Hearing.{carry_heard, conns_hear}
-use Rattle.node_step.specs.declared.loads.Load.TheVariants.{TcpTimer, Tick}
+use Rattle.node_step.specs.declared.loads.Load.TheVariants.{FragTimer, TcpTimer, Tick}
 use Rattle.node_step.specs.Firing.{PlainFiring, schedule}
 use Rattle.node_step.specs.LocalApp.{PlainLocalApp, app_step}
 use Rattle.node_step.specs.Node.{PlainNode, Progress, changed, progress}
 use Rattle.node_step.specs.Sending.{carry_sent, carry_to_ip, ip_sends, ports_send}
-use Rattle.node_step.specs.Up.{carry_ip, carry_ports, ip_takes, ports_take}
+use Rattle.node_step.specs.Delivery.{carry_ports, ports_take}
+use Rattle.node_step.specs.Reassembly.{carry_frags, frags_take}
+use Rattle.node_step.specs.Up.{carry_ip, ip_takes}
 
 -- acts that were put into an empty list are those that the list holds
 pub made : {A X : Type 0} (see : A → X) (old new : List A) (acts : List X) → old ≡ [] → Appends see old new acts → map see new ≡ acts
@@ -99,6 +105,18 @@ unfolding conns_hear
 conns-hear input inside node firing conns numbers acts end same changed numbered asked carried =
     conns-stage carry_heard inside firing conns _ numbers _ acts _ end changed numbered asked carried ∙ ap (λ (n : PlainNode). conns_hear input (progress n firing)) same
 
+pub frags-take : (input : FragsIn Packet) (inside node : PlainNode) (firing : PlainFiring) (frags : PlainFrags) (numbers : Numbers) (acts : List (FragsAct Packet)) (end : Progress) →
+    inside ≡ node → frags ≡ (frags_step inside.frags inside.numbers input).state → numbers ≡ (frags_step inside.frags inside.numbers input).numbers →
+    acts ≡ (frags_step inside.frags inside.numbers input).acts →
+    end ≡ fold carry_frags (progress (record inside { frags = frags; numbers = numbers }) firing) acts → end ≡ frags_take input (progress node firing)
+unfolding frags_take
+frags-take input inside node firing frags numbers acts end same changed numbered asked carried =
+    let s = frags_step inside.frags inside.numbers input in
+    carried ∙ ap (λ (f : PlainFrags). fold carry_frags (progress (record inside { frags = f; numbers = numbers }) firing) acts) changed
+    ∙ ap (λ (m : Numbers). fold carry_frags (progress (record inside { frags = s.state; numbers = m }) firing) acts) numbered
+    ∙ ap (λ ys. fold carry_frags (progress (record inside { frags = s.state; numbers = s.numbers }) firing) ys) asked
+    ∙ ap (λ (n : PlainNode). frags_take input (progress n firing)) same
+
 -- where there is no application, nothing happens
 pub app-none : (app : ℕ) (input : AppIn Packet) (inside node : PlainNode) (firing : PlainFiring) → inside ≡ node → length inside.apps ≤ app →
     progress node firing ≡ app_takes app input (progress node firing)
@@ -153,6 +171,13 @@ pub timers : (at : Time) (conn stamp : ℕ) (inside node : PlainNode) (old new :
 unfolding carry_asked
 timers at conn stamp inside node old new same is =
     ap (progress node) (is ∙ ap (λ (n : PlainNode). schedule at n.numbers.node (TcpTimer conn stamp) old) same)
+
+-- reassembly asks for a timer
+pub frag-timers : (at : Time) (stamp : ℕ) (inside node : PlainNode) (old new : PlainFiring) → inside ≡ node →
+    new ≡ schedule at inside.numbers.node (FragTimer stamp) old → progress node new ≡ carry_frags (progress node old) (FragTimerAt at stamp)
+unfolding carry_frags
+frag-timers at stamp inside node old new same is =
+    ap (progress node) (is ∙ ap (λ (n : PlainNode). schedule at n.numbers.node (FragTimer stamp) old) same)
 
 -- an application asks for a tick
 pub ticks : (app port : ℕ) (at : Time) (inside node : PlainNode) (old new : PlainFiring) → inside ≡ node →

@@ -3,10 +3,13 @@ pub mod Firing
 pub mod LocalApp
 pub mod Node
 pub mod Down
+pub mod Leaving
 pub mod Sending
 pub mod Asking
 pub mod Apps
 pub mod Hearing
+pub mod Delivery
+pub mod Reassembly
 pub mod Up
 pub mod React
 pub mod Part

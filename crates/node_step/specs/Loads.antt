@@ -4,7 +4,7 @@ use Rattle.sim_base.specs.Packet.{Packet}
 use Rattle.iface_step.specs.declared.words.Happening.{Happening}
 use Rattle.iface_step.specs.declared.words.Happening.TheVariants.{Arrive as Arrives, Sent as HasLeft, BusFree as BusIsFree, BackoffOver as BackoffIsOver, DiscReady as DiscIsReady, ArpTimer as ArpTimerEnds}
 use Rattle.node_step.specs.declared.loads.Load.{Load}
-use Rattle.node_step.specs.declared.loads.Load.TheVariants.{Arrive, Sent, BusFree, BackoffOver, DiscReady, ArpTimer, TcpTimer, Tick}
+use Rattle.node_step.specs.declared.loads.Load.TheVariants.{Arrive, Sent, BusFree, BackoffOver, DiscReady, ArpTimer, FragTimer, TcpTimer, Tick}
 use Rattle.node_step.specs.declared.loads.Event.{Event}
 
 abbrev pub plain_load : {P : Type 0} → (P → Packet) → Load P → Load Packet
@@ -14,6 +14,7 @@ plain_load plain (BusFree iface) = BusFree iface
 plain_load plain (BackoffOver iface) = BackoffOver iface
 plain_load plain (DiscReady iface) = DiscReady iface
 plain_load plain (ArpTimer iface addr stamp) = ArpTimer iface addr stamp
+plain_load plain (FragTimer stamp) = FragTimer stamp
 plain_load plain (TcpTimer conn stamp) = TcpTimer conn stamp
 plain_load plain (Tick app) = Tick app
 

@@ -4,6 +4,7 @@ use Rattle.sim_base.specs.declared.numbers.Numbers.{Numbers}
 use Rattle.sim_base.specs.declared.time.Time.{Time}
 use Rattle.sim_base.specs.Draws.{PlainRandom}
 use Rattle.layer_words.specs.Counting.{count_up}
+use Rattle.frag_core.specs.Step.{PlainFrags}
 use Rattle.ipv4_core.specs.Ip.{PlainIp}
 use Rattle.udp_icmp.specs.Ports.{PlainPorts}
 use Rattle.tcp_flow.specs.Conns.{PlainConns}
@@ -11,11 +12,13 @@ use Rattle.iface_step.specs.Iface.{PlainIface}
 use Rattle.node_step.specs.Firing.{PlainFiring}
 use Rattle.node_step.specs.LocalApp.{PlainLocalApp}
 
--- Its interfaces; its routes and addresses; which application gets what comes; its connections; its applications; its generator; what it has
--- numbered; how many packets it has dropped; how many events it had scheduled before the run, and how many it has scheduled in all
+-- Its interfaces; its routes and addresses; the fragments that it holds; which application gets what comes; its connections; its
+-- applications; its generator; what it has numbered; how many packets it has dropped; how many events it had scheduled before the
+-- run, and how many it has scheduled in all
 pub record PlainNode : Type 0 where
   pub ifaces : List PlainIface
   pub ip : PlainIp
+  pub frags : PlainFrags
   pub ports : PlainPorts
   pub conns : PlainConns
   pub apps : List PlainLocalApp
@@ -39,6 +42,9 @@ now p = p.firing.key.time
 
 abbrev pub with_app : ℕ → PlainLocalApp → Progress → Progress
 with_app app a p = record p { node = record p.node { apps = slice_set p.node.apps app a } }
+
+abbrev pub with_frags : PlainFrags → Progress → Progress
+with_frags frags p = record p { node = record p.node { frags = frags } }
 
 abbrev pub with_conns : PlainConns → Progress → Progress
 with_conns conns p = record p { node = record p.node { conns = conns } }

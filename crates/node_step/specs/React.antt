@@ -5,19 +5,21 @@ use Rattle.sim_base.specs.Packet.{Packet, len}
 use Rattle.csma_dev.specs.declared.bus.Bus.{Bus}
 use Rattle.iface_step.specs.declared.words.Happening.TheVariants.{Arrive as Arrives, Sent as HasLeft, BusFree as BusIsFree, BackoffOver as BackoffIsOver, DiscReady as DiscIsReady, ArpTimer as ArpTimerEnds}
 use Rattle.iface_step.specs.Attachment.{least_frame}
+use Rattle.frag_core.specs.declared.words.In.TheVariants.{Timer as FragsTimer}
 use Rattle.tcp_flow.specs.declared.words.In.TheVariants.{Timer}
 use Rattle.traffic_apps.specs.declared.app.In.TheVariants.{Tick as TickInput}
 use Rattle.node_step.specs.declared.loads.Event.{Event}
 use Rattle.node_step.specs.declared.loads.Load.{Load}
-use Rattle.node_step.specs.declared.loads.Load.TheVariants.{Arrive, Sent, BusFree, BackoffOver, DiscReady, ArpTimer, TcpTimer, Tick}
+use Rattle.node_step.specs.declared.loads.Load.TheVariants.{Arrive, Sent, BusFree, BackoffOver, DiscReady, ArpTimer, FragTimer, TcpTimer, Tick}
 use Rattle.node_step.specs.declared.stop.FireStop.{FireStop}
 use Rattle.node_step.specs.declared.stop.FireStop.TheVariants.{NoMemory, Limit}
 use Rattle.node_step.specs.Apps.{app_takes}
 use Rattle.node_step.specs.Hearing.{conns_hear}
 use Rattle.node_step.specs.Node.{PlainNode, Progress, now}
+use Rattle.node_step.specs.Reassembly.{frags_take}
 use Rattle.node_step.specs.Up.{iface_happens}
 
--- what an event brings is handed to an interface, to TCP or to an application
+-- what an event brings is handed to an interface, to reassembly, to TCP or to an application
 unfoldable pub handled : Load Packet → Progress → Progress
 handled (Arrive iface frame) p = iface_happens iface (Arrives frame) p
 handled (Sent iface) p = iface_happens iface HasLeft p
@@ -25,6 +27,7 @@ handled (BusFree iface) p = iface_happens iface BusIsFree p
 handled (BackoffOver iface) p = iface_happens iface BackoffIsOver p
 handled (DiscReady iface) p = iface_happens iface DiscIsReady p
 handled (ArpTimer iface addr stamp) p = iface_happens iface (ArpTimerEnds addr stamp) p
+handled (FragTimer stamp) p = frags_take (FragsTimer stamp) p
 handled (TcpTimer conn stamp) p = conns_hear (Timer (now p) conn stamp) p
 handled (Tick app) p = app_takes app (TickInput (now p)) p
 
@@ -65,5 +68,6 @@ CanHandle (BusFree iface) node = iface < length node.ifaces
 CanHandle (BackoffOver iface) node = iface < length node.ifaces
 CanHandle (DiscReady iface) node = iface < length node.ifaces
 CanHandle (ArpTimer iface addr stamp) node = iface < length node.ifaces
+CanHandle (FragTimer stamp) node = Unit {0}
 CanHandle (TcpTimer conn stamp) node = Unit {0}
 CanHandle (Tick app) node = app < length node.apps

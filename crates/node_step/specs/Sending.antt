@@ -14,11 +14,11 @@ use Rattle.udp_icmp.specs.declared.ports.Act.TheVariants.{ToIp, ToApp, Report as
 use Rattle.udp_icmp.specs.declared.ports.In.{In as PortsIn}
 use Rattle.udp_icmp.specs.Step.{step as ports_step}
 use Rattle.node_step.specs.Node.{Progress, with_numbers, dropped}
-use Rattle.node_step.specs.Down.{send_packet}
+use Rattle.node_step.specs.Leaving.{send_out}
 
 -- what IPv4 asks for when it sends: a packet leaves, or is dropped
 unfoldable pub carry_sent : Progress → IpAct Packet → Progress
-carry_sent p (Out iface neighbour packet) = send_packet iface neighbour packet p
+carry_sent p (Out iface neighbour mtu packet) = send_out iface neighbour mtu packet p
 carry_sent p (Local head packet) = p
 carry_sent p (ReportByIp kind code head packet) = p
 carry_sent p DroppedByIp = dropped p

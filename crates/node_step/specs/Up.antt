@@ -1,8 +1,9 @@
--- A frame on its way up, through its interface, IPv4, and UDP, TCP or ICMP, to an application.
-use Rattle.std.specs.Prelude.{ℕ, fold, if◌then◌else◌, ◌==◌}
+-- A frame on its way up, through its interface and IPv4, to reassembly or its protocol.
+use Rattle.std.specs.Prelude.{ℕ, fold, if◌then◌else◌}
 use Rattle.sim_base.specs.Packet.{Packet}
 use Rattle.header_forms.specs.declared.ipv4.Ipv4.{Ipv4}
 use Rattle.layer_words.specs.Acts.{Made}
+use Rattle.frag_core.specs.declared.words.In.TheVariants.{Piece}
 use Rattle.iface_step.specs.declared.words.Act.{Act as IfaceAct}
 use Rattle.iface_step.specs.declared.words.Act.TheVariants.{Schedule, Write, Up, Dropped as DroppedBelow}
 use Rattle.iface_step.specs.declared.words.Happening.{Happening}
@@ -12,47 +13,22 @@ use Rattle.ipv4_core.specs.declared.ip.Act.TheVariants.{Out, Local, Report as Re
 use Rattle.ipv4_core.specs.declared.ip.In.{In as IpIn}
 use Rattle.ipv4_core.specs.declared.ip.In.TheVariants.{Arrive as ArriveAtIp}
 use Rattle.ipv4_core.specs.Ip.{is_fragment, step as ip_step}
-use Rattle.udp_icmp.specs.declared.ports.Act.{Act as PortsAct}
-use Rattle.udp_icmp.specs.declared.ports.Act.TheVariants.{ToIp, ToApp, Report as ReportByPorts, Dropped}
-use Rattle.udp_icmp.specs.declared.ports.In.{In as PortsIn}
-use Rattle.udp_icmp.specs.declared.ports.In.TheVariants.{UdpArrive, IcmpArrive, Report}
-use Rattle.udp_icmp.specs.Step.{step as ports_step}
-use Rattle.traffic_apps.specs.declared.app.In.TheVariants.{Got}
-use Rattle.tcp_flow.specs.declared.words.In.TheVariants.{Segment}
-use Rattle.ipv4_core.specs.declared.ip.In.TheVariants.{Send as SendByIp}
-use Rattle.node_step.specs.Apps.{app_takes}
-use Rattle.node_step.specs.Down.{IfaceStepped, carry_down, step_at, send_packet}
-use Rattle.node_step.specs.Hearing.{conns_hear}
+use Rattle.udp_icmp.specs.declared.ports.In.TheVariants.{Report}
+use Rattle.node_step.specs.Delivery.{deliver_whole}
+use Rattle.node_step.specs.Down.{IfaceStepped, carry_down, step_at}
+use Rattle.node_step.specs.Leaving.{send_out}
 use Rattle.node_step.specs.Node.{Progress, dropped, now, with_numbers}
-use Rattle.node_step.specs.Sending.{ip_sends, report}
+use Rattle.node_step.specs.Reassembly.{frags_take}
+use Rattle.node_step.specs.Sending.{report}
 
--- what UDP and ICMP ask for when a packet has come: an answer goes down, a payload goes up, its source is told, or it is dropped
-unfoldable pub carry_ports : Progress → PortsAct Packet → Progress
-carry_ports p (ToIp src dst proto packet) = ip_sends (SendByIp src dst proto packet) p
-carry_ports p (ToApp app src sport packet) = app_takes app (Got src sport packet) p
-carry_ports p (ReportByPorts kind code head packet) = report head.src (Report kind code head packet) p
-carry_ports p Dropped = dropped p
-
--- a step of UDP or ICMP, whose acts are carried out in order
-abbrev pub stepped_ports : Made (PortsAct Packet) → Progress → Progress
-stepped_ports made p = fold carry_ports (with_numbers made.numbers p) made.acts
-
--- UDP or ICMP takes a packet that has come
-unfoldable pub ports_take : PortsIn Packet → Progress → Progress
-ports_take input p = stepped_ports (ports_step p.node.ports p.node.numbers input) p
-
--- a packet for this node goes to UDP, TCP or ICMP; fragments and other protocols are dropped
+-- a packet for this node goes to its protocol, and a fragment to reassembly
 unfoldable pub deliver : Ipv4 → Packet → Progress → Progress
 deliver head packet p =
-    if is_fragment head then dropped p
-    else if head.proto == 17 then ports_take (UdpArrive head packet) p
-    else if head.proto == 6 then conns_hear (Segment (now p) (record { src = head.src; dst = head.dst; packet = packet })) p
-    else if head.proto == 1 then ports_take (IcmpArrive head packet) p
-    else dropped p
+    if is_fragment head then frags_take (Piece (now p) head packet) p else deliver_whole head packet p
 
 -- what IPv4 asks for when a packet has come: it goes on, or up, its source is told, or it is dropped
 unfoldable pub carry_ip : Progress → IpAct Packet → Progress
-carry_ip p (Out iface neighbour packet) = send_packet iface neighbour packet p
+carry_ip p (Out iface neighbour mtu packet) = send_out iface neighbour mtu packet p
 carry_ip p (Local head packet) = deliver head packet p
 carry_ip p (ReportByIp kind code head packet) = report head.src (Report kind code head packet) p
 carry_ip p DroppedByIp = dropped p

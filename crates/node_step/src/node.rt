@@ -2,18 +2,23 @@
 
 mod apps;
 mod asking;
+mod delivery;
 mod down;
 mod hearing;
+mod leaving;
 mod react;
+mod reassembly;
 mod sending;
 mod up;
 mod work;
 
 ghost use Rattle.std.specs.Prelude.{◌≡◌, ◌≤◌, ◌^◌, ◌++◌, OnOk, map};
+ghost use Rattle.frag_core.specs.Step.{no_frags};
 ghost use Rattle.node_step.specs.LocalApp.{app_count};
 ghost use Rattle.node_step.specs.Node.{with_drop};
 
 use crate::local_app::{AppCount, LocalApp};
+use frag_core::Frags;
 use iface_step::Iface;
 use ipv4_core::Ip;
 use pkt_face::Pkt;
@@ -28,6 +33,7 @@ pub use work::Work;
 pub struct Node<P: Pkt> {
     ifaces: Vec<Iface<P>>,
     ip: Ip,
+    frags: Frags<P>,
     ports: Ports,
     conns: Conns,
     apps: Vec<LocalApp>,
@@ -48,13 +54,13 @@ impl<P: Pkt> Model for Node<P> {
 
     ghost coded = { Prim.hlevel (codes, conn.the_row.coded) };
 
-    ghost view = { λ n. record { ifaces = n.ifaces.items; ip = n.ip; ports = n.ports; conns = n.conns; apps = n.apps.items; random = n.random; numbers = n.numbers; drops = n.drops; first = n.first; scheduled = n.scheduled } };
+    ghost view = { λ n. record { ifaces = n.ifaces.items; ip = n.ip; frags = n.frags; ports = n.ports; conns = n.conns; apps = n.apps.items; random = n.random; numbers = n.numbers; drops = n.drops; first = n.first; scheduled = n.scheduled } };
 
     ghost invariant = { λ n. (n.first ≤ 10 ^ 6) × (n.scheduled ≤ n.first + 10 ^ 9) };
 }
 
 impl<P: Pkt> Node<P> {
-    /// A node that has fired nothing yet, and has numbered `first` events before the run: the first ticks of its
+    /// A node that has fired nothing yet, holds no fragment, and has numbered `first` events before the run: the first ticks of its
     /// applications. They don't count for the limit.
     pub fn make(
         number: NodeId,
@@ -67,7 +73,7 @@ impl<P: Pkt> Node<P> {
         apps: Vec<LocalApp>,
     ) -> Node<P>
         requires { first ≤ 10 ^ 6 }
-        ensures { result ≡ record { ifaces = ifaces.items; ip = ip; ports = ports; conns = conns; apps = apps.items; random = random; numbers = record { node = number; packets = 0; ids = 0; stamps = 0 }; drops = 0; first = first; scheduled = first } }
+        ensures { result ≡ record { ifaces = ifaces.items; ip = ip; frags = no_frags; ports = ports; conns = conns; apps = apps.items; random = random; numbers = record { node = number; packets = 0; ids = 0; stamps = 0 }; drops = 0; first = first; scheduled = first } }
     {
         let numbers = Numbers {
             node: number,
@@ -75,9 +81,11 @@ impl<P: Pkt> Node<P> {
             ids: 0,
             stamps: 0,
         };
+        let frags = Frags::make(*ifaces.allocator());
         Node {
             ifaces,
             ip,
+            frags,
             ports,
             conns,
             apps,

@@ -113,7 +113,12 @@ fn input<P: Pkt>(alloc: Global, words: &[&str]) -> Result<In<P>>
 
 fn act_text<P: Pkt>(alloc: Global, act: &Act<P>) -> Result<String, AllocError> {
     match act {
-        Act::Out { iface, hop, packet } => {
+        Act::Out {
+            iface,
+            hop,
+            packet,
+            ..
+        } => {
             let packet = packets::written(alloc, packet)?;
             format!(in alloc; "out {iface} {hop:08x} {packet}")
         }

@@ -5,10 +5,12 @@
 
 mod apps;
 mod datagrams;
+mod fragments;
 mod packets;
 mod ports;
 
 use anyhow::{Result, bail};
+use frag_core::Frags;
 use layer_words::{checksum_behind, checksum_behind_header, pseudo_header};
 use pkt_face::{Pkt, PlainPkt};
 use std::alloc::Global;
@@ -31,6 +33,7 @@ fn main(rt: HostRuntime) -> Result<()> {
     let alloc = rt.alloc();
     let router = datagrams::router(alloc)?;
     let mut numbers = packets::numbers();
+    let mut frags = Frags::make(alloc);
     let ports = ports::ports(alloc)?;
     let mut apps = apps::apps(alloc)?;
     for line in rt.lines(alloc) {
@@ -42,6 +45,9 @@ fn main(rt: HostRuntime) -> Result<()> {
         let words: Vec<&str> = line.split(' ').collect(alloc)?;
         let answer = match *words.as_slice() {
             ["ip", ref input @ ..] => datagrams::answer(alloc, &router, &mut numbers, input)?,
+            ["frag", ref input @ ..] => {
+                fragments::answer(alloc, &mut frags, &mut numbers, input)?
+            }
             ["ports", ref input @ ..] => ports::answer(alloc, &ports, &mut numbers, input)?,
             ["app", ref input @ ..] => apps::answer(alloc, &mut apps, &mut numbers, input)?,
             ["checksum", src, dst, packet] => checksums(alloc, src, dst, packet)?,

@@ -1,20 +1,16 @@
 //! Nodes that share a LAN: one waits while another's frame has the bus, and an address that no node has is asked for in vain.
 
 use crate::run::run;
-use crate::wiring::{FIRST_NET, tick, way};
+use crate::wiring::{FIRST_NET, node, once, tick, way};
 use arp_core::ArpCache;
 use csma_dev::{Bus, Csma};
 use iface_step::{Iface, Place};
-use ipv4_core::{Ip, Routes, Table};
 use node_step::{LocalApp, Node, Part};
 use pkt_face::PlainPkt;
 use queue_discs::{Disc, DiscKind};
-use sim_base::{Loss, NoMemory, NodeId, Random, Rate, Time};
+use sim_base::{Loss, NoMemory, NodeId, Rate, Time};
 use std::alloc::Global;
-use std::collections::{BTreeMap, BTreeSet};
-use tcp_flow::Conns;
-use traffic_apps::{App, AppKind, Schedule};
-use udp_icmp::Ports;
+use traffic_apps::{App, AppKind};
 
 /// The LAN has 100,000,000 bit/s and a delay of 1000 ns.
 const RATE: Rate = Rate(100_000_000);
@@ -48,41 +44,25 @@ fn place(node: u8) -> Place {
 /// A node of the LAN, which sends one datagram of 100 bytes to an address, if it is given one.
 fn member(
     alloc: Global,
-    node: u8,
+    number: u8,
     members: u8,
     dst: Option<u32>,
 ) -> Result<Node<PlainPkt>, NoMemory> {
-    let addr = FIRST_NET + 1 + u32::from(node);
-    let mut near = BTreeMap::new(alloc);
-    near.insert(FIRST_NET, way(0, addr, None))?;
-    let mut own = BTreeSet::new(alloc);
-    own.insert(addr)?;
-    let mut apps = Vec::new(alloc);
-    if let Some(dst) = dst {
-        let schedule = Schedule {
-            size: 100,
-            count: 1,
-            interval: Time(1_000_000_000),
-            priority: 0,
-        };
-        let kind = AppKind::UdpSend {
-            dst,
-            port: 9,
-            schedule,
-        };
-        apps.push(LocalApp::make(App::make(u32::from(node), kind), 49153))?;
-    }
-    let number = NodeId(u32::from(node));
-    Ok(Node::make(
-        number,
-        1,
-        Random::make(1, number),
-        vec![in alloc; iface(alloc, node, members)?]?,
-        Ip::make(Routes::make(vec![in alloc; Table::make(24, near)]?), own),
-        Ports::make(BTreeMap::new(alloc), BTreeMap::new(alloc)),
-        Conns::make(alloc),
-        apps,
-    ))
+    let addr = FIRST_NET + 1 + u32::from(number);
+    let near = vec![in alloc; (FIRST_NET, way(0, addr, None))]?;
+    let app = dst.map(|dst| sender(number, dst));
+    let ifaces = vec![in alloc; iface(alloc, number, members)?]?;
+    node(alloc, u32::from(number), ifaces, near, None, app, 1)
+}
+
+/// One that sends one datagram of 100 bytes.
+fn sender(number: u8, dst: u32) -> LocalApp {
+    let kind = AppKind::UdpSend {
+        dst,
+        port: 9,
+        schedule: once(100),
+    };
+    LocalApp::make(App::make(u32::from(number), kind), 49153)
 }
 
 /// Nodes 0 and 1 each send to node 2, at 1 s.

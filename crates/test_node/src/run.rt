@@ -93,6 +93,9 @@ fn event_text(alloc: Global, ev: &Event<PlainPkt>) -> Result<String, NoMemory> {
         Load::ArpTimer { iface, addr, .. } => {
             format!(in alloc; "{time} node {node}: no answer from {addr} at interface {iface}\n")?
         }
+        Load::FragTimer { .. } => {
+            format!(in alloc; "{time} node {node}: the time for a datagram's fragments is over\n")?
+        }
         Load::TcpTimer { conn, .. } => {
             format!(in alloc; "{time} node {node}: the timer of connection {conn} fires\n")?
         }

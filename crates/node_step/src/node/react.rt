@@ -25,7 +25,7 @@ impl<P: Pkt> Node<P> {
             | Load::BackoffOver { iface }
             | Load::DiscReady { iface }
             | Load::ArpTimer { iface, .. } => (*iface as usize) < self.ifaces.len(),
-            Load::TcpTimer { .. } => true,
+            Load::FragTimer { .. } | Load::TcpTimer { .. } => true,
             Load::Tick { app } => (*app as usize) < self.apps.len(),
         }
     }
@@ -75,7 +75,7 @@ impl<P: Pkt> Node<P> {
         true
     }
 
-    /// Hands what an event brings to an interface, to TCP or to an application.
+    /// Hands what an event brings to an interface, to reassembly, to TCP or to an application.
     #[tactic(auto, unfolding(crate::specs::React::handled))]
     fn handle(&mut self, load: Load<P>, work: &mut Work<P>) -> Result<(), NoMemory>
         requires { CanHandle (plain_load P.plain load) self.old }
@@ -92,6 +92,7 @@ impl<P: Pkt> Node<P> {
             Load::ArpTimer { iface, addr, stamp } => {
                 self.iface_happens(iface, Happening::ArpTimer { addr, stamp }, work)
             }
+            Load::FragTimer { stamp } => self.frags_take(frag_core::In::Timer { stamp }, work),
             Load::TcpTimer { conn, stamp } => {
                 let now = work.firing.now();
                 self.conns_hear(tcp_flow::In::Timer { now, conn, stamp }, work)

@@ -133,9 +133,12 @@ impl<P: Pkt> Node<P> {
         ensures { OnOk result (progress self.new work.new.firing ≡ carry_sent (progress self.old work.old.firing) (plain_ip_act P.plain act)) }
     {
         match act {
-            ipv4_core::Act::Out { iface, hop, packet } => {
-                self.send_packet(iface, hop, packet, work)
-            }
+            ipv4_core::Act::Out {
+                iface,
+                hop,
+                mtu,
+                packet,
+            } => self.send_out(iface, hop, mtu, packet, work),
             ipv4_core::Act::Dropped => {
                 self.drop_packet();
                 Ok(())

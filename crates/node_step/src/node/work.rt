@@ -23,7 +23,9 @@ pub struct Work<P: Pkt> {
     /// The same of IPv4.
     pub(super) ip_up: Vec<ipv4_core::Act<P>>,
     pub(super) ip_down: Vec<ipv4_core::Act<P>>,
-    /// The same of UDP and ICMP.
+    /// What reassembly asks for.
+    pub(super) frags: Vec<frag_core::Act<P>>,
+    /// What UDP and ICMP ask for when a packet comes, and when they send.
     pub(super) ports_up: Vec<udp_icmp::Act<P>>,
     pub(super) ports_down: Vec<udp_icmp::Act<P>>,
     /// What TCP asks for when a segment comes or a timer fires, and when an application asks something of it.
@@ -45,6 +47,7 @@ impl<P: Pkt> Work<P> {
             iface_down: Vec::new(alloc),
             ip_up: Vec::new(alloc),
             ip_down: Vec::new(alloc),
+            frags: Vec::new(alloc),
             ports_up: Vec::new(alloc),
             ports_down: Vec::new(alloc),
             conns_up: Vec::new(alloc),

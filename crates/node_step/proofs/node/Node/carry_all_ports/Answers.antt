@@ -2,7 +2,7 @@ use Rattle.std.proofs.Common.{arith, ap, ◌∙◌, reverse}
 use Rattle.std.proofs.lemmas.List.{take_at}
 use Rattle.udp_icmp.specs.Seen.{plain_act}
 use Rattle.udp_icmp.specs.Step.{FitsDatagram}
-use Rattle.node_step.specs.Up.{carry_ports}
+use Rattle.node_step.specs.Delivery.{carry_ports}
 use Rattle.node_step.proofs.Fits.{fit-reverse, fit-pop, leads-reverse, leads-pop}
 use Rattle.node_step.proofs.node.Node.carry_all_ports.Goals as goal
 

@@ -2,7 +2,7 @@ use Rattle.std.proofs.Common.{◌≡◌, fold, map, reverse, All}
 use Rattle.udp_icmp.specs.Seen.{plain_act}
 use Rattle.udp_icmp.specs.Step.{FitsDatagram}
 use Rattle.node_step.specs.Node.{progress}
-use Rattle.node_step.specs.Up.{carry_ports}
+use Rattle.node_step.specs.Delivery.{carry_ports}
 use Rattle.node_step.proofs.node.Node.carry_all_ports.Given as goal
 
 -- what is left to carry out leads to where all acts lead
