@@ -1,34 +1,57 @@
-//! Numbers and times as digits.
+//! Numbers and times as digits. A text is put into a row from its last byte to its first: each call puts its part so that
+//! it ends at a place of the row, and answers where it begins.
 
-ghost use Rattle.std.specs.Prelude.{◌≡◌, ◌+◌, ◌<◌, ◌%◌, ◌∷◌, [], ◌++◌, codes, OnOk, OnErr};
+ghost use Rattle.std.specs.Prelude.{◌≡◌, ◌+◌, ◌≤◌, ◌<◌, ◌%◌, ◌++◌, codes, drop, length};
 ghost use Rattle.std.specs.Fmt.{decimal};
-ghost use Rattle.ascii_trace.specs.Numbers.{IsLonger, last_digits, seconds};
+ghost use Rattle.ascii_trace.specs.Numbers.{last_digits, seconds};
 
-use sim_base::{NoMemory, Time};
+use itoa::write_digits;
+use sim_base::Time;
 
 const NANOSECONDS_PER_SECOND: u64 = 1_000_000_000;
 
-/// Appends a digit.
-fn write_digit(digit: u64, out: &mut Vec<u8>) -> Result<(), NoMemory>
-    requires { digit < 10 }
-    ensures ok { OnOk result (out.new.items ≡ out.old.items ++ (48 + digit) ∷ []) }
-    ensures err { OnErr result (IsLonger out.old.items out.new.items) }
+/// Puts a text. Where it is a literal, no call of the C library is left of it.
+#[inline(always)]
+pub fn put_text(text: &[u8], row: &mut [u8], end: usize) -> usize
+    requires { (length text.now ≤ end) × (end ≤ length row.old) }
+    ensures start { result + length text.now ≡ end }
+    ensures written { drop result row.new ≡ text.now ++ drop end row.old }
 {
-    out.push(b'0' + digit as u8)?;
-    Ok(())
+    let start = end - text.len();
+    row[start..end].copy_from_slice(text);
+    start
 }
 
-/// Appends a number. After want of memory `out` begins as before.
-#[tactic(auto, using(std::proofs::lemmas::Fmt::decimal_step, std::proofs::lemmas::Fmt::decimal_digit, crate::proofs::Longer::longer_behind))]
-pub fn write_decimal(number: u64, out: &mut Vec<u8>) -> Result<(), NoMemory>
-    ensures ok { OnOk result (out.new.items ≡ out.old.items ++ decimal number) }
-    ensures err { OnErr result (IsLonger out.old.items out.new.items) }
+/// Puts a number, which has at most 20 digits.
+#[inline(always)]
+pub fn put_decimal(number: u64, row: &mut [u8], end: usize) -> usize
+    requires { (20 ≤ end) × (end ≤ length row.old) }
+    ensures room { (result ≤ end) × (end ≤ result + 20) }
+    ensures written { drop result row.new ≡ decimal number ++ drop end row.old }
 {
-    if number < 10 {
-        return write_digit(number, out);
-    }
-    write_decimal(number / 10, out)?;
-    write_digit(number % 10, out)
+    write_digits(number, row, end)
+}
+
+/// Puts a number behind a text.
+#[inline(always)]
+pub fn put_labelled(label: &[u8], number: u64, row: &mut [u8], end: usize) -> usize
+    requires { (length label.now + 20 ≤ end) × (end ≤ length row.old) }
+    ensures room { (result ≤ end) × (end ≤ result + (length label.now + 20)) }
+    ensures written { drop result row.new ≡ (label.now ++ decimal number) ++ drop end row.old }
+{
+    let start = put_decimal(number, row, end);
+    put_text(label, row, start)
+}
+
+/// Puts a time in seconds, with nine digits behind the point: at most 30 bytes.
+#[inline]
+pub fn put_seconds(time: Time, row: &mut [u8], end: usize) -> usize
+    requires { (30 ≤ end) × (end ≤ length row.old) }
+    ensures room { (result ≤ end) × (end ≤ result + 30) }
+    ensures written { drop result row.new ≡ seconds time.0 ++ drop end row.old }
+{
+    let point = put_text(&fraction(time.0 % NANOSECONDS_PER_SECOND), row, end);
+    put_decimal(time.0 / NANOSECONDS_PER_SECOND, row, point)
 }
 
 /// A byte for the last digit of a number.
@@ -62,15 +85,4 @@ fn fraction(nanoseconds: u64) -> [u8; 10]
         last_digit(tens),
         last_digit(nanoseconds),
     ]
-}
-
-/// Appends a time in seconds, with nine digits behind the point.
-#[tactic(auto, using(crate::proofs::Longer::longer_behind))]
-pub fn write_seconds(time: Time, out: &mut Vec<u8>) -> Result<(), NoMemory>
-    ensures ok { OnOk result (out.new.items ≡ out.old.items ++ seconds time.0) }
-    ensures err { OnErr result (IsLonger out.old.items out.new.items) }
-{
-    write_decimal(time.0 / NANOSECONDS_PER_SECOND, out)?;
-    out.extend_from_slice(&fraction(time.0 % NANOSECONDS_PER_SECOND))?;
-    Ok(())
 }
