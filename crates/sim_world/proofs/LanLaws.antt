@@ -62,7 +62,7 @@ held_at nodes ends are n below i d there =
     let is : IsPlaced nodes ends n i e = are.each n i d there in
     held_by nodes ends n i e e.medium refl is.node is.iface below there (λ x. get_or_default (ends_at n ends) i x d there)
 
-all_joined : {A : Type 0} (P : A → Type 0) (groups : List (List A)) → All (All P) groups → All P (joined groups)
+pub all_joined : {A : Type 0} (P : A → Type 0) (groups : List (List A)) → All (All P) groups → All P (joined groups)
 all_joined P [] are = All-nil P
 all_joined P (there ∷ groups) are = All-append P there (joined groups) (All-head (All P) there groups are) (all_joined P groups (All-tail (All P) there groups are))
 

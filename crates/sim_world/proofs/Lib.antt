@@ -3,7 +3,6 @@ pub mod EndLaws
 pub mod EndLimits
 pub mod RouteLaws
 pub mod AppLaws
-pub mod FitLaws
 pub mod RangeLaws
 pub mod PlanLaws
 pub mod WiringLaws
@@ -12,3 +11,5 @@ pub mod LossLaws
 pub mod TickLaws
 pub mod WorldLaws
 pub mod ShareLaws
+pub mod MapLaws
+pub mod GuideLaws

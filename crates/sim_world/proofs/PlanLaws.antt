@@ -2,10 +2,8 @@
 use Rattle.std.proofs.Common.{◌≡◌, ℕ, ◌<◌, ◌≤◌, List, [], length, map, get_or, sym, ap, subst, ◌∙◌, arith}
 use Rattle.std.specs.Prelude.{All}
 use Rattle.std.specs.List.{filter_map, range_with_len, flat_map}
-use Rattle.std.proofs.lemmas.List.Elements.{All-weaker}
-use Rattle.scenario_form.specs.declared.scenario.Route.{Route}
 use Rattle.scenario_form.specs.declared.scenario.Scenario.{Scenario}
-use Rattle.scenario_form.specs.Limits.{IsWithinLimits, IsRoute}
+use Rattle.scenario_form.specs.Limits.{IsWithinLimits}
 use Rattle.sim_base.specs.Packet.{Packet}
 use Rattle.node_step.specs.declared.loads.Event.{Event}
 use Rattle.node_step.specs.Node.{PlainNode}
@@ -16,35 +14,30 @@ use Rattle.sim_world.specs.Ends.{IsEnd, ends_of, in_order}
 use Rattle.sim_world.specs.Ends as ends
 use Rattle.sim_world.specs.Lans.{lan_of, member_of}
 use Rattle.sim_world.specs.Ifaces.{Around}
-use Rattle.sim_world.specs.Routing as routing
 use Rattle.sim_world.specs.Apps.{IsListed, listed_from, installed_from}
 use Rattle.sim_world.specs.Apps as apps
 use Rattle.sim_world.specs.Ticks.{ticks_of}
-use Rattle.sim_world.specs.World.{PlainWorld, world_of, around_in, id, new_node, ends_in, routes_in, apps_in, node_in, ticks_in}
+use Rattle.sim_world.specs.World.{PlainWorld, world_of, around_in, id, new_node, ends_in, beyond_in, apps_in, node_in, ticks_in}
 use Rattle.sim_world.specs.Plan.{IsPlan, IsPlanOf, planned_around, planned_node, planned_ticks}
-use Rattle.sim_world.proofs.GroupLaws.{length-grouped, get_or-grouped, all_grouped}
+use Rattle.sim_world.specs.Guide.{IsGuide, guided}
+use Rattle.sim_world.proofs.GroupLaws.{length-grouped, get_or-grouped}
+use Rattle.sim_world.proofs.GuideLaws.{counted, guided_is}
 use Rattle.sim_world.proofs.EndLimits.{all_ends_grouped}
 use Rattle.sim_world.proofs.AppLaws.{all_listed_grouped, few_listed}
 use Rattle.sim_world.proofs.RangeLaws.{map-same, flat_map-same}
 
-short_routes : (nodes : ℕ) (routes : List Route) → All (IsRoute nodes) routes → All (All (λ r. r.prefix ≤ 30)) (grouped routing.node_of nodes routes)
-short_routes nodes routes are =
-    let P : Route → Type 0 = λ r. r.prefix ≤ 30 in
-    all_grouped routing.node_of nodes P routes (All-weaker (IsRoute nodes) P (λ r is. is.prefix.to) routes are)
-
-pub within : (s : Scenario) (plan : Plan) → IsWithinLimits s → IsPlanOf s plan → IsPlan plan
-within s plan limits is =
+pub within : (s : Scenario) (plan : Plan) → IsWithinLimits s → IsPlanOf s plan → IsGuide plan.guide → IsPlan plan
+within s plan limits is guide =
     let ends_long : length plan.ends.items ≡ s.nodes = ap length is.ends ∙ length-grouped ends.node_of s.nodes (ends_of s.links s.lans) in
-    let routes_long : length plan.routes.items ≡ s.nodes = ap length is.routes ∙ length-grouped routing.node_of s.nodes s.routes in
     let apps_long : length plan.apps.items ≡ s.nodes = ap length is.apps ∙ length-grouped apps.node_of s.nodes (listed_from 0 s.apps) in
     let members_long : length plan.members.items ≡ length s.lans =
     ap length is.members ∙ length-grouped lan_of (length s.lans) (filter_map member_of (in_order s.nodes (ends_of s.links s.lans))) in
     record {
-      routes_count = routes_long ∙ sym ends_long;
       apps_count = apps_long ∙ sym ends_long;
       ends = subst (λ (n : ℕ). All (All (IsEnd n)) plan.ends.items) (sym members_long)
           (subst (All (All (IsEnd (length s.lans)))) (sym is.ends) (all_ends_grouped s.nodes s.links s.lans limits.links limits.lans));
-      routes = subst (All (All (λ (r : Route). r.prefix ≤ 30))) (sym is.routes) (short_routes s.nodes s.routes limits.routes);
+      guide = guide;
+      guide_count = counted s plan.guide is.guide ∙ sym ends_long;
       apps = subst (All (All IsListed)) (sym is.apps) (all_listed_grouped s.nodes s.apps limits.apps);
       few = subst (All (λ (there : List Listed). length there ≤ 4000)) (sym is.apps) (few_listed s.nodes 4000 s.apps limits.few.apps);
     }
@@ -58,17 +51,16 @@ apps_at s plan n is lt = ap (λ groups. installed_from 0 (get_or groups n [])) i
 
 -- what lies around the nodes
 same_around : (s : Scenario) (plan : Plan) → IsPlanOf s plan → planned_around s.ascii s.losses plan ≡ around_in s
-same_around s plan is = λ i. record { told = s.ascii; losses = s.losses; members = is.members i; holder = λ addr. is.holders addr i }
+same_around s plan is = λ i. record { told = s.ascii; losses = s.losses; members = is.members i }
 
 same_node : (s : Scenario) (plan : Plan) (n : ℕ) → IsPlanOf s plan → n < s.nodes → planned_node s.ascii s.seed s.losses plan n ≡ node_in s n
 same_node s plan n is lt =
     let ends_here : get_or plan.ends.items n [] ≡ ends_in s n = ap (λ groups. get_or groups n []) is.ends ∙ get_or-grouped ends.node_of s.nodes (ends_of s.links s.lans) n [] lt in
-    let routes_here : get_or plan.routes.items n [] ≡ routes_in s n = ap (λ groups. get_or groups n []) is.routes ∙ get_or-grouped routing.node_of s.nodes s.routes n [] lt in
     let planned : Around = planned_around s.ascii s.losses plan in
-    ap (λ es. new_node s.seed planned (id n) es (get_or plan.routes.items n []) (installed_from 0 (get_or plan.apps.items n []))) ends_here
-    ∙ ap (λ rs. new_node s.seed planned (id n) (ends_in s n) rs (installed_from 0 (get_or plan.apps.items n []))) routes_here
-    ∙ ap (new_node s.seed planned (id n) (ends_in s n) (routes_in s n)) (apps_at s plan n is lt)
-    ∙ ap (λ around. new_node s.seed around (id n) (ends_in s n) (routes_in s n) (apps_in s n)) (same_around s plan is)
+    (λ i. new_node s.seed planned (id n) (ends_here i) (guided plan.guide n (ends_here i)) (installed_from 0 (get_or plan.apps.items n [])))
+    ∙ ap (λ beyond. new_node s.seed planned (id n) (ends_in s n) beyond (installed_from 0 (get_or plan.apps.items n []))) (guided_is s plan.guide n lt is.guide)
+    ∙ ap (new_node s.seed planned (id n) (ends_in s n) (beyond_in s.routing s n)) (apps_at s plan n is lt)
+    ∙ ap (λ around. new_node s.seed around (id n) (ends_in s n) (beyond_in s.routing s n) (apps_in s n)) (same_around s plan is)
 
 pub same_nodes : (s : Scenario) (plan : Plan) → IsPlanOf s plan → map (planned_node s.ascii s.seed s.losses plan) (range_with_len 0 s.nodes) ≡ map (node_in s) (range_with_len 0 s.nodes)
 same_nodes s plan is = map-same (planned_node s.ascii s.seed s.losses plan) (node_in s) 0 s.nodes (λ n lt. same_node s plan n is (omega (arith, lt)))

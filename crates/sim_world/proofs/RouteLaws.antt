@@ -1,13 +1,14 @@
 -- Tables of routes, addresses, and look-ups of interfaces.
-use Rattle.std.proofs.Common.{◌≡◌, ◌≢◌, ℕ, zero, suc, ◌+◌, ◌<◌, ◌≤◌, nat_eq, nat_lt, Bool, true, false, cond, List, [], ◌∷◌, ◌++◌, length, take, drop, fold, find, get_or, Option, Some, None, is_some, IfSome, refl, sym, ap, subst, ◌∙◌, arith, append_assoc}
+use Rattle.std.proofs.Common.{◌≡◌, ◌≢◌, ℕ, zero, suc, ◌+◌, ◌<◌, ◌≤◌, nat_eq, nat_lt, Bool, true, false, cond, List, [], ◌∷◌, ◌++◌, length, take, drop, fold, find, map, get_or, Option, Some, None, is_some, IfSome, refl, sym, ap, subst, ◌∙◌, arith, append_assoc}
 use Rattle.std.specs.Prelude.{◌==◌, All}
 use Rattle.std.specs.List.{AllByRecursion, filter_map, cons_option}
 use Rattle.std.specs.Option.{option_or}
 use Rattle.std.specs.declared.cmp.Ordering.TheVariants.{Less, Equal, Greater}
 use Rattle.std.specs.Ordering.{nat_cmp, is_eq}
+use Rattle.std.specs.BTreeMap.{insert_entry}
 use Rattle.std.specs.BTreeSet.{insert_key}
 use Rattle.std.proofs.lemmas.List.{append-nil, take_more, at_drop_more}
-use Rattle.std.proofs.lemmas.List.Elements.{All-head, All-tail}
+use Rattle.std.proofs.lemmas.List.Elements.{All-append, All-head, All-map, All-tail}
 use Rattle.std.proofs.lemmas.List.Folds.{find-append}
 use Rattle.ipv4_core.specs.declared.routes.Way.{Way}
 use Rattle.ipv4_core.specs.Routes.{PlainTable, IsFalling}
@@ -15,7 +16,9 @@ use Rattle.scenario_form.specs.declared.scenario.Route.{Route}
 use Rattle.sim_world.specs.declared.ends.End.{End}
 use Rattle.sim_world.specs.declared.routing.Entry.{Entry}
 use Rattle.sim_world.specs.Networks.{IsNetwork}
-use Rattle.sim_world.specs.Routing.{first_on, listed, ways_of, with_table, tables_below, with_own}
+use Rattle.sim_world.specs.Routing.{connected, entries_of, first_on, listed, prefix_of, ways_of, with_table, with_way, tables_below, with_own}
+use Rattle.sim_world.specs.Grouping.{grouped, under}
+use Rattle.sim_world.proofs.GroupLaws.{get_or-grouped}
 
 -- ---- prefixes fall
 
@@ -184,3 +187,24 @@ listed_none f routes i d old new all lt so_far is same =
     let rest : List Entry = filter_map f (drop (i + 1) routes) in
     ap (λ es. es ++ rest) same ∙ ap (λ o. old ++ cons_option o rest) (sym is)
     ∙ ap (λ es. old ++ es) (sym (at_drop_more (filter_map f) routes i d lt)) ∙ so_far
+
+-- ---- ways
+
+pub way_next : (i : ℕ) (entries : List Entry) (d : Entry) (old new all : List (ℕ × Way)) → i < length entries → fold with_way old (drop i entries) ≡ all
+    → new ≡ insert_entry nat_cmp old (get_or entries i d).dest (get_or entries i d).way → fold with_way new (drop (i + 1) entries) ≡ all
+way_next i entries d old new all lt so_far added =
+    ap (λ ways. fold with_way ways (drop (i + 1) entries)) added ∙ sym (at_drop_more (fold with_way old) entries i d lt) ∙ so_far
+
+-- those of one prefix length
+pub prefix_at : (groups : List (List Entry)) (entries : List Entry) (prefix : ℕ) (there : List Entry) → prefix < 31 → groups ≡ grouped prefix_of 31 entries
+    → get_or groups prefix there ≡ under prefix_of prefix entries
+prefix_at groups entries prefix there lt are = ap (λ gs. get_or gs prefix there) are ∙ get_or-grouped prefix_of 31 entries prefix there lt
+
+pub short_entries : (ends : List End) (beyond : List Entry) → All (λ e. IsNetwork e.network) ends → All (λ e. prefix_of e ≤ 30) beyond
+    → All (λ e. prefix_of e ≤ 30) (entries_of ends beyond)
+short_entries ends beyond are short =
+    let P : Entry → Type 0 = λ e. prefix_of e ≤ 30 in
+    All-append P (map connected ends) beyond (All-map P connected ends (λ k d lt. (are k d lt).prefix)) short
+
+pub short_at : (entries : List Entry) (i : ℕ) (d : Entry) → All (λ e. prefix_of e ≤ 30) entries → i < length entries → prefix_of (get_or entries i d) < 31
+short_at entries i d are lt = omega (arith, are i d lt)

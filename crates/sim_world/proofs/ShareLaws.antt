@@ -2,7 +2,7 @@
 use Rattle.std.proofs.Common.{◌≡◌, ◌≢◌, ℕ, zero, suc, ◌+◌, ◌<◌, ◌≤◌, ◌^◌, ◌⊎◌, true, false, List, [], ◌∷◌, ◌++◌, All, Option, Some, None, slice_get, slice_index, get_or, set, filter, length, length-set, length-append, map, replicate, reverse, refl, sym, ap, ◌∙◌, subst, inl, inr, arith, append_assoc}
 use Rattle.std.proofs.lemmas.Bool.{cases_eq, eq-eqb}
 use Rattle.std.proofs.lemmas.Bool.Decides.{eqb_tells}
-use Rattle.std.proofs.lemmas.List.{append-nil, get_or-replicate, get_or-set_other, get_or-set_same, length-map, length-replicate, reverse-append, reverse-reverse}
+use Rattle.std.proofs.lemmas.List.{append-nil, get_or-replicate, get_or-set_other, get_or-set_same, length-map, length-replicate, map-append, reverse-append, reverse-reverse}
 use Rattle.std.proofs.lemmas.Option.{get_or_from_slice_get, slice_get-get_or, slice_get-map, slice_get_within}
 use Rattle.std.specs.Option.{option_map}
 use Rattle.sim_base.specs.Packet.{Packet}
@@ -270,6 +270,17 @@ turned-back f all turned is = ap (map f) (ap reverse is ∙ reverse-reverse all)
 
 pub turned-pop : {A B : Type 0} (f : A → B) (xs ys : List A) (x : A) → xs ≡ ys ++ x ∷ [] → map f (reverse xs) ≡ f x ∷ map f (reverse ys)
 turned-pop f xs ys x last = ap (λ l. map f (reverse l)) last ∙ ap (map f) (reverse-append ys (x ∷ []))
+
+-- one more is made of the last of a list: what is made, and what is left, are those of the whole list still
+pub made-more : {A B C : Type 0} (seen : B → C) (f : A → C) (made : List B) (one : B) (xs ys : List A) (x : A) (all : List C) →
+    map seen made ++ map f (reverse xs) ≡ all → xs ≡ ys ++ x ∷ [] → seen one ≡ f x →
+    map seen (made ++ one ∷ []) ++ map f (reverse ys) ≡ all
+made-more seen f made one xs ys x all before last same =
+    ap (λ l. l ++ map f (reverse ys)) (map-append seen made (one ∷ []))
+    ∙ append_assoc (map seen made) (seen one ∷ []) (map f (reverse ys))
+    ∙ ap (λ c. map seen made ++ c ∷ map f (reverse ys)) same
+    ∙ ap (λ l. map seen made ++ l) (sym (turned-pop f xs ys x last))
+    ∙ before
 
 pub none-left : {A : Type 0} (xs : List A) → (0 < length xs → false ≡ true) → xs ≡ []
 none-left [] h = refl

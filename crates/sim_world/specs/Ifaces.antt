@@ -14,12 +14,11 @@ use Rattle.sim_world.specs.declared.lans.Member.{Member}
 use Rattle.sim_world.specs.Lans.{mac_of, others}
 use Rattle.sim_world.specs.Losses.{loss_at, loss_of}
 
--- what lies around a node: whether the text trace is asked for, the losses, the members of each LAN in the order of their nodes, and the interface that has an address
+-- what lies around a node: whether the text trace is asked for, the losses, and the members of each LAN in the order of their nodes
 pub record Around : Type 0 where
   pub told : Bool
   pub losses : List Loss
   pub members : List (List Member)
-  pub holder : ℕ → Option End
 
 -- an idle device at an end of a link
 abbrev pub link_end : Bool → List Loss → End → Place → PlainAttachment

@@ -1,4 +1,3 @@
-pub mod NotBuilt
 pub mod Grouping
 pub mod Networks
 pub mod Ends
@@ -6,9 +5,11 @@ pub mod Lans
 pub mod Losses
 pub mod Ifaces
 pub mod Routing
+pub mod Graph
 pub mod Apps
 pub mod Ticks
 pub mod World
+pub mod Guide
 pub mod Plan
 pub mod Opening
 pub mod Shares

@@ -1,4 +1,4 @@
--- Where a node sends packets: to its own networks, and by the listed routes.
+-- Where a node sends packets: to its own networks, and by the routes beyond them.
 use Rattle.std.specs.Prelude.{ℕ, zero, suc, ◌==◌, List, [], ◌∷◌, ◌++◌, map, fold, filter, find, filter_map, Option, None, Some, option_map}
 use Rattle.std.specs.Ordering.{nat_cmp}
 use Rattle.std.specs.BTreeMap.{insert_entry}
@@ -42,17 +42,28 @@ listed_by r e = record { prefix = r.prefix; dest = r.dest; way = way_of e (Some 
 abbrev pub listed : (ℕ → Option End) → (ℕ → Option End) → Route → Option Entry
 listed holder on r = option_map (listed_by r) (toward on (holder r.via))
 
--- the routes of a node with these interfaces: its networks, and then the listed ones
-abbrev pub entries_of : (ℕ → Option End) → List End → List Route → List Entry
-entries_of holder ends routes = map connected ends ++ filter_map (listed holder (first_on ends)) routes
+-- the listed routes of a node with these interfaces
+abbrev pub listed_routes : (ℕ → Option End) → List End → List Route → List Entry
+listed_routes holder ends routes = filter_map (listed holder (first_on ends)) routes
+
+-- the routes of a node with these interfaces: its networks, and then those beyond
+abbrev pub entries_of : List End → List Entry → List Entry
+entries_of ends beyond = map connected ends ++ beyond
+
+abbrev pub prefix_of : Entry → ℕ
+prefix_of e = e.prefix
 
 -- one more way to a network
 abbrev pub with_way : List (ℕ × Way) → Entry → List (ℕ × Way)
 with_way ways e = insert_entry nat_cmp ways e.dest e.way
 
--- the ways to the networks of one prefix length, by network
+-- the ways to the networks of some routes, by network
+abbrev pub ways_to : List Entry → List (ℕ × Way)
+ways_to entries = fold with_way [] entries
+
+-- those of one prefix length
 abbrev pub ways_of : ℕ → List Entry → List (ℕ × Way)
-ways_of prefix entries = fold with_way [] (filter (λ e. e.prefix == prefix) entries)
+ways_of prefix entries = ways_to (filter (λ e. e.prefix == prefix) entries)
 
 -- a table, as contracts see it
 abbrev pub seen : Table → PlainTable
@@ -80,5 +91,5 @@ with_own own e = insert_key nat_cmp own e.addr
 abbrev pub own_of : List End → List ℕ
 own_of ends = fold with_own [] ends
 
-abbrev pub ip_of : (ℕ → Option End) → List End → List Route → PlainIp
-ip_of holder ends routes = record { routes = tables_of (entries_of holder ends routes); own = own_of ends }
+abbrev pub ip_of : List End → List Entry → PlainIp
+ip_of ends beyond = record { routes = tables_of (entries_of ends beyond); own = own_of ends }

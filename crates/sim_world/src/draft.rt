@@ -8,17 +8,18 @@ ghost use Rattle.traffic_apps.specs.App.{IsKind};
 ghost use Rattle.sim_world.specs.Ends.{IsEnd};
 ghost use Rattle.sim_world.specs.Losses.{IsLoss};
 ghost use Rattle.sim_world.specs.Plan.{IsPlan, planned_around, planned_node, planned_ticks};
+ghost use Rattle.sim_world.specs.Routing.{prefix_of};
 ghost use Rattle.sim_world.specs.World.{new_node};
 
 use crate::apps::{Installed, conns, install, local_apps, ports};
 use crate::ends::End;
 use crate::ifaces::ifaces;
 use crate::plan::Plan;
-use crate::routing::ip;
+use crate::routing::{Entry, ip};
 use crate::ticks::{schedule_ticks, tick_count};
 use node_step::{Event, Node};
 use pkt_face::Pkt;
-use scenario_form::{Loss, Route};
+use scenario_form::Loss;
 use sim_base::{NoMemory, NodeId, Random};
 use std::alloc::Global;
 
@@ -72,6 +73,8 @@ impl<P: Pkt> Draft<P> {
         ensures first { OnOk result (Appends (plain_event P.plain) self.old.first.items self.new.first.items (planned_ticks plan.now number)) }
     {
         let here = number as usize;
+        let ends = plan.ends[here].as_slice();
+        let beyond = plan.guide.routes_of(alloc, number, ends)?;
         let apps = install(alloc, plan.apps[here].as_slice())?;
         let node = new_node(
             alloc,
@@ -80,8 +83,8 @@ impl<P: Pkt> Draft<P> {
             NodeId(number),
             losses,
             plan,
-            plan.ends[here].as_slice(),
-            plan.routes[here].as_slice(),
+            ends,
+            beyond.as_slice(),
             apps.as_slice(),
         )?;
         schedule_ticks(NodeId(number), apps.as_slice(), &mut self.first)?;
@@ -99,18 +102,18 @@ fn new_node<P: Pkt>(
     losses: &[Loss],
     plan: &Plan,
     ends: &[End],
-    routes: &[Route],
+    beyond: &[Entry],
     apps: &[Installed],
 ) -> Result<Node<P>, NoMemory>
     requires losses { All IsLoss losses.now }
     requires ends { All (IsEnd (length plan.now.members.items)) ends.now }
-    requires routes { All (λ r. r.prefix ≤ 30) routes.now }
+    requires beyond { All (λ e. prefix_of e ≤ 30) beyond.now }
     requires kinds { All (λ i. IsKind i.kind) apps.now }
     requires few { length apps.now ≤ 4000 }
-    ensures { IfOk result (λ node. node ≡ new_node seed (planned_around told losses.now plan.now) number ends.now routes.now apps.now) }
+    ensures { IfOk result (λ node. node ≡ new_node seed (planned_around told losses.now plan.now) number ends.now beyond.now apps.now) }
 {
     let ifaces = ifaces(alloc, told, losses, plan, ends)?;
-    let ip = ip(alloc, &plan.holders, ends, routes)?;
+    let ip = ip(alloc, ends, beyond)?;
     let ports = ports(alloc, apps)?;
     let conns = conns(alloc, apps)?;
     let local = local_apps(alloc, apps)?;

@@ -4,17 +4,17 @@
 mod apps;
 mod draft;
 mod ends;
+mod graph;
 mod grouping;
+mod guide;
 mod ifaces;
 mod lans;
 mod losses;
 mod networks;
-mod not_built;
 mod plan;
 mod routing;
 mod shares;
 mod ticks;
 mod world;
 
-pub use not_built::is_built;
 pub use world::World;

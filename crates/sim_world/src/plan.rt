@@ -5,21 +5,19 @@ ghost use Rattle.scenario_form.specs.Limits.{IsWithinLimits};
 
 use crate::apps::{Listed, apps_by_node};
 use crate::ends::{End, ends_by_node};
+use crate::guide::Guide;
 use crate::lans::{Member, members_by_lan};
-use crate::routing::{holders, routes_by_node};
-use scenario_form::{Route, Scenario};
+use scenario_form::Scenario;
 use sim_base::{NoMemory, Sequence};
 use std::alloc::Global;
-use std::collections::BTreeMap;
 
-/// The interfaces, the listed routes and the applications of each node; the members of each LAN; and who has each address.
+/// The interfaces and the applications of each node; the members of each LAN; and how routes are found.
 #[derive(Drop)]
 pub struct Plan {
     pub ends: Vec<Sequence<End>>,
-    pub routes: Vec<Sequence<Route>>,
     pub apps: Vec<Sequence<Listed>>,
     pub members: Vec<Sequence<Member>>,
-    pub holders: BTreeMap<u32, End>,
+    pub guide: Guide,
 }
 
 impl Plan {
@@ -34,16 +32,14 @@ impl Plan {
         let nodes = scenario.nodes;
         let lans = scenario.lans.as_slice();
         let ends = ends_by_node(alloc, nodes, scenario.links.as_slice(), lans)?;
-        let routes = routes_by_node(alloc, nodes, scenario.routes.as_slice())?;
         let apps = apps_by_node(alloc, nodes, scenario.apps.as_slice())?;
         let members = members_by_lan(alloc, lans.len() as u32, ends.as_slice())?;
-        let holders = holders(alloc, ends.as_slice())?;
+        let guide = Guide::of(alloc, scenario, ends.as_slice())?;
         Ok(Plan {
             ends,
-            routes,
             apps,
             members,
-            holders,
+            guide,
         })
     }
 }

@@ -1,4 +1,4 @@
-//! Where a node sends packets: to its own networks, and by the listed routes.
+//! Where a node sends packets: to its own networks, and by the routes beyond them.
 
 ghost use Rattle.std.specs.Prelude.{◌≡◌, ℕ, ◌≤◌, List, [], ◌++◌, map, option_map, All, IfOk, IfSome, OnOk};
 ghost use Rattle.std.specs.List.{filter_map};
@@ -9,7 +9,7 @@ ghost use Rattle.ipv4_core.specs.Routes.{network};
 ghost use Rattle.scenario_form.specs.Limits.{IsRoute};
 ghost use Rattle.sim_world.specs.Grouping.{grouped, joined};
 ghost use Rattle.sim_world.specs.Networks.{IsNetwork};
-ghost use Rattle.sim_world.specs.Routing.{node_of, connected, listed, listed_by, holder_of, first_on, entries_of, ways_of, seen, with_table, tables_of, own_of, ip_of};
+ghost use Rattle.sim_world.specs.Routing.{node_of, connected, listed, listed_by, holder_of, first_on, prefix_of, ways_to, seen, with_table, tables_of, own_of, ip_of};
 
 use crate::ends::End;
 use crate::grouping::{no_items, put};
@@ -46,38 +46,17 @@ pub fn routes_by_node(
     Ok(listed)
 }
 
-/// The routes and addresses of a node.
-pub fn ip(
-    alloc: Global,
-    holders: &BTreeMap<u32, End>,
-    ends: &[End],
-    routes: &[Route],
-) -> Result<Ip, NoMemory>
+/// The routes and addresses of a node with these interfaces, and with these routes beyond the networks that it is on.
+pub fn ip(alloc: Global, ends: &[End], beyond: &[Entry]) -> Result<Ip, NoMemory>
     requires ends { All (λ e. IsNetwork e.network) ends.now }
-    requires routes { All (λ r. r.prefix ≤ 30) routes.now }
-    ensures { IfOk result (λ ip. ip ≡ ip_of (get nat_cmp holders.now) ends.now routes.now) }
+    requires beyond { All (λ e. prefix_of e ≤ 30) beyond.now }
+    ensures { IfOk result (λ ip. ip ≡ ip_of ends.now beyond.now) }
 {
-    let entries = entries(alloc, holders, ends, routes)?;
+    let mut entries = networks(alloc, ends)?;
+    entries.extend_from_slice(beyond)?;
     let tables = tables(alloc, entries.as_slice())?;
     let own = own_addresses(alloc, ends)?;
     Ok(Ip::make(tables, own))
-}
-
-/// The networks that the node is on, and then its listed routes.
-fn entries(
-    alloc: Global,
-    holders: &BTreeMap<u32, End>,
-    ends: &[End],
-    routes: &[Route],
-) -> Result<Vec<Entry>, NoMemory>
-    requires ends { All (λ e. IsNetwork e.network) ends.now }
-    requires routes { All (λ r. r.prefix ≤ 30) routes.now }
-    ensures { IfOk result (λ entries. entries.items ≡ entries_of (get nat_cmp holders.now) ends.now routes.now) }
-{
-    let on = ends_by_network(alloc, ends)?;
-    let mut entries = networks(alloc, ends)?;
-    add_listed(&mut entries, holders, &on, routes)?;
-    Ok(entries)
 }
 
 /// The networks that a node is on.
@@ -93,7 +72,7 @@ fn networks(alloc: Global, ends: &[End]) -> Result<Vec<Entry>, NoMemory>
 }
 
 /// Puts the listed routes behind the entries, each by the interface that is on the network of its next hop.
-fn add_listed(
+pub fn add_listed(
     entries: &mut Vec<Entry>,
     holders: &BTreeMap<u32, End>,
     on: &BTreeMap<u32, End>,
@@ -112,7 +91,7 @@ fn add_listed(
 }
 
 /// The first of a node's interfaces on each network, by the network's number.
-fn ends_by_network(alloc: Global, ends: &[End]) -> Result<BTreeMap<u32, End>, NoMemory>
+pub fn ends_by_network(alloc: Global, ends: &[End]) -> Result<BTreeMap<u32, End>, NoMemory>
     ensures { IfOk result (λ on. (number : ℕ) → get nat_cmp on number ≡ first_on ends.now number) }
 {
     let mut on = BTreeMap::new(alloc);
@@ -207,7 +186,7 @@ fn listed_by(route: &Route, end: &End) -> Entry
 }
 
 /// An address with the bits beyond the prefix cleared.
-fn network(addr: u32, prefix: u32) -> u32
+pub fn network(addr: u32, prefix: u32) -> u32
     requires { prefix ≤ 32 }
     ensures { result ≡ network prefix addr }
 {
@@ -217,16 +196,30 @@ fn network(addr: u32, prefix: u32) -> u32
 
 /// A table for each prefix length that some route has, the longest first.
 fn tables(alloc: Global, entries: &[Entry]) -> Result<Routes, NoMemory>
+    requires { All (λ e. prefix_of e ≤ 30) entries.now }
     ensures { IfOk result (λ routes. routes ≡ tables_of entries.now) }
 {
+    let by_prefix = by_prefix(alloc, entries)?;
     let mut tables = Vec::new(alloc);
     let mut prefix = PREFIXES;
     while prefix > 0 {
         prefix -= 1;
-        let ways = ways(alloc, prefix, entries)?;
+        let ways = ways(alloc, by_prefix[prefix as usize].as_slice())?;
         add_table(&mut tables, prefix, ways)?;
     }
     Ok(Routes::make(tables))
+}
+
+/// The routes of each prefix length.
+fn by_prefix(alloc: Global, entries: &[Entry]) -> Result<Vec<Sequence<Entry>>, NoMemory>
+    requires { All (λ e. prefix_of e ≤ 30) entries.now }
+    ensures { IfOk result (λ groups. groups.items ≡ grouped prefix_of 31 entries.now) }
+{
+    let mut groups = no_items(alloc, PREFIXES)?;
+    for entry in entries {
+        put(&mut groups, entry.prefix, *entry)?;
+    }
+    Ok(groups)
 }
 
 /// Puts a table behind the others, if it has a way.
@@ -241,15 +234,13 @@ fn add_table(tables: &mut Vec<Table>, prefix: u32, ways: BTreeMap<u32, Way>) -> 
     Ok(())
 }
 
-/// The ways to the networks of one prefix length.
-fn ways(alloc: Global, prefix: u32, entries: &[Entry]) -> Result<BTreeMap<u32, Way>, NoMemory>
-    ensures { IfOk result (λ ways. ways.entries ≡ ways_of prefix entries.now) }
+/// The ways to the networks of routes of one prefix length.
+fn ways(alloc: Global, entries: &[Entry]) -> Result<BTreeMap<u32, Way>, NoMemory>
+    ensures { IfOk result (λ ways. ways.entries ≡ ways_to entries.now) }
 {
     let mut ways = BTreeMap::new(alloc);
     for entry in entries {
-        if entry.prefix == prefix {
-            ways.insert(entry.dest, entry.way)?;
-        }
+        ways.insert(entry.dest, entry.way)?;
     }
     Ok(ways)
 }

@@ -5,7 +5,6 @@ ghost use Rattle.std.specs.List.{range_with_len};
 ghost use Rattle.node_step.specs.Firing.{free};
 ghost use Rattle.node_step.specs.Loads.{plain_event};
 ghost use Rattle.scenario_form.specs.Limits.{IsWithinLimits};
-ghost use Rattle.sim_world.specs.NotBuilt.{not_built};
 ghost use Rattle.sim_world.specs.Shares.{AreSplit, part_seen};
 
 use crate::draft::Draft;
@@ -56,7 +55,6 @@ impl<P: Pkt> World<P> {
     /// The world of a scenario that is built.
     pub fn make(alloc: Global, scenario: &Scenario) -> Result<World<P>, NoMemory>
         requires limits { IsWithinLimits scenario.now }
-        requires built { not_built scenario.now ≡ false }
         ensures world { IfOk result (λ world. world ≡ world_of scenario.now) }
         ensures opens { IfOk result OpensRuns }
     {
