@@ -10,3 +10,5 @@ pub mod PairLaws
 pub mod AutoLaws
 pub mod TestLaws
 pub mod UsedGroups
+pub mod MedianLaws
+pub mod NamedLaws

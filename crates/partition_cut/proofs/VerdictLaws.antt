@@ -11,7 +11,7 @@ use Rattle.partition_cut.specs.declared.verdict.CutBad.{CutBad}
 use Rattle.partition_cut.specs.declared.verdict.CutBad.TheVariants.{Twice, Missing, Lan, ZeroDelay}
 use Rattle.partition_cut.specs.AllowedCut.{IsAllowed, is_apart, is_cut}
 use Rattle.partition_cut.specs.Network.{Link, group_at, node_lists, nodes_of}
-use Rattle.partition_cut.specs.Refusal.{AreAllowed, first_refusal, place_refusal, network_refusal, groups_of, group_in, places}
+use Rattle.partition_cut.specs.Refusal.{AreAllowed, first_refusal, refusal_in, place_refusal, network_refusal, groups_of, group_in, places}
 use Rattle.partition_cut.proofs.CountLaws.{group_in-more}
 use Rattle.partition_cut.proofs.Positions.{position-none, none-position, position-map, position-same}
 
@@ -147,7 +147,7 @@ allowed-network shape g is =
     ]
 
 pub refusal-exact : (shape : Shape) (groups : List (List ℕ)) → (first_refusal shape groups ≡ None) ↔ AreAllowed shape groups
-unfolding first_refusal
+unfolding refusal_in
 refusal-exact shape groups = (
   λ none. (let both = or-none (place_refusal shape groups) (network_refusal shape (group_at (groups_of shape groups))) none in record {
     once = placed-once shape groups both.0;
@@ -197,7 +197,7 @@ pub refused-places : (shape : Shape) (groups : List (List ℕ)) (counts items : 
     items ≡ map (λ node. min 2 (places groups node)) (nodes_of shape) → counts ≡ items →
     Some bad ≡ option_or (option_map Twice (position (λ count. count == 2) counts)) (option_map Missing (position (λ count. count == 0) counts)) →
     first_refusal shape groups ≡ Some bad
-unfolding first_refusal
+unfolding refusal_in
 refused-places shape groups counts items bad e same h =
     ap (λ (o : Option CutBad). option_or o (network_refusal shape (group_at (groups_of shape groups))))
     (sym (counts-refuse shape groups counts (same ∙ e)) ∙ sym h)
@@ -206,7 +206,7 @@ refused-places shape groups counts items bad e same h =
 pub refused-network : (shape : Shape) (groups : List (List ℕ)) (numbers items : List ℕ) (o : Option CutBad) →
     place_refusal shape groups ≡ None → items ≡ groups_of shape groups → numbers ≡ items → o ≡ network_refusal shape (group_at numbers) →
     first_refusal shape groups ≡ o
-unfolding first_refusal
+unfolding refusal_in
 refused-network shape groups numbers items o none e same h =
     ap (λ (p : Option CutBad). option_or p (network_refusal shape (group_at (groups_of shape groups)))) none
     ∙ ap (λ (l : List ℕ). network_refusal shape (group_at l)) (sym e ∙ sym same) ∙ sym h

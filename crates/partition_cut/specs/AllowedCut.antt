@@ -1,5 +1,5 @@
 -- Which cuts of a network into groups are allowed, and how far ahead their groups may run.
-use Rattle.std.specs.Prelude.{◌≡◌, ◌≢◌, ◌==◌, ℕ, ◌<◌, ◌≤◌, Bool, not, List, length, All, Any, Option, Some, None, slice_index, min, if◌then◌else◌}
+use Rattle.std.specs.Prelude.{◌≡◌, ◌≢◌, ◌==◌, ℕ, ◌<◌, ◌≤◌, Bool, not, List, fold, length, All, Any, Option, Some, None, slice_index, min, if◌then◌else◌}
 use Rattle.std.specs.List.{list_any}
 use Rattle.sim_base.specs.declared.time.Time.{Time}
 use Rattle.partition_cut.specs.declared.network.Shape.{Shape}
@@ -35,6 +35,10 @@ sooner_of (Some least) delay = record { 0 = min least.0 delay.0 }
 abbrev pub least_with_link : (ℕ → ℕ) → Option Time → Link → Option Time
 least_with_link group_of least link =
     if group_of link.0 == group_of link.1 then least else Some (sooner_of least link.2)
+
+-- the least delay of a link with its ends in two groups, if there is one
+abbrev pub lookahead_of : (ℕ → ℕ) → List Link → Option Time
+lookahead_of group_of links = fold (least_with_link group_of) None links
 
 -- an allowed cut: each node is in one of the groups, each group has a node, and so there are no more groups than nodes
 pub record IsCutOf (shape : Shape) (cut : Cut) : Type 0 where

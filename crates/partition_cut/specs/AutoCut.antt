@@ -31,8 +31,11 @@ abbrev pub pairs_of_lan : List ℕ → List (ℕ × ℕ)
 pairs_of_lan lan = map (λ node. (slice_index lan 0, node)) lan
 
 -- the pairs of nodes that stay together
+abbrev pub pairs_in : Option ℕ → List Link → List (List ℕ) → List (ℕ × ℕ)
+pairs_in threshold links lans = pairs_of_links threshold links ++ flat_map pairs_of_lan lans
+
 abbrev pub pairs_of : Option ℕ → Shape → List (ℕ × ℕ)
-pairs_of threshold shape = pairs_of_links threshold shape.links.items ++ flat_map pairs_of_lan (node_lists shape.lans.items)
+pairs_of threshold shape = pairs_in threshold shape.links.items (node_lists shape.lans.items)
 
 -- a walk from node to node over pairs, in either direction
 pub data Walk (pairs : List (ℕ × ℕ)) : ℕ → ℕ → Type 0 where

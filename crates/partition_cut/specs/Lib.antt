@@ -3,3 +3,4 @@ pub mod AllowedCut
 pub mod Refusal
 pub mod AutoCut
 pub mod Forest
+pub mod NamedCut

@@ -5,7 +5,8 @@ ghost use Rattle.std.specs.List.{range_with_len};
 ghost use Rattle.partition_cut.specs.AllowedCut.{IsCutOf};
 ghost use Rattle.partition_cut.specs.AutoCut.{AreSettled, IsAutoCut, IsMedian, is_kept, joined, pairs_of, pairs_of_lan, pairs_of_links, positive_delays, rank};
 ghost use Rattle.partition_cut.specs.Forest.{AreParents, LeadTo};
-ghost use Rattle.partition_cut.specs.Network.{IsShape, node_lists, nodes_of};
+ghost use Rattle.partition_cut.specs.NamedCut.{auto_cut};
+ghost use Rattle.partition_cut.specs.Network.{IsShape, node_lists, nodes_of, plain_cut, plain_shape};
 
 use crate::lookahead::least_cut_delay;
 use crate::network::{Cut, Shape};
@@ -240,6 +241,7 @@ pub fn auto(shape: &Shape) -> Result<Cut, NoMemory>
     requires { IsShape shape.now }
     ensures allowed { IfOk result (λ cut. IsCutOf shape.now cut) }
     ensures joined { IfOk result (λ cut. IsAutoCut shape.now cut) }
+    ensures named { IfOk result (λ cut. plain_cut cut ≡ auto_cut (plain_shape shape.now)) }
 {
     let alloc = *shape.links.allocator();
     let delays = positive_delays_of(alloc, &shape.links)?;

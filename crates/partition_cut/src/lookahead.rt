@@ -1,7 +1,7 @@
 //! How far ahead a group may run before another can reach it.
 
 ghost use Rattle.std.specs.Prelude.{◌≡◌, ◌<◌, All, length};
-ghost use Rattle.partition_cut.specs.AllowedCut.{IsLookahead, least_with_link, sooner_of};
+ghost use Rattle.partition_cut.specs.AllowedCut.{IsLookahead, least_with_link, lookahead_of, sooner_of};
 ghost use Rattle.partition_cut.specs.Network.{group_at};
 
 use sim_base::Time;
@@ -31,7 +31,8 @@ fn least_with(least: Option<Time>, link: &(u32, u32, Time), group_of: &[u32]) ->
 /// The least delay of a link whose ends are in two groups.
 pub fn least_cut_delay(links: &[(u32, u32, Time)], group_of: &[u32]) -> Option<Time>
     requires { All (λ link. (link.0 < length group_of.now) × (link.1 < length group_of.now)) links.now }
-    ensures { IsLookahead (group_at group_of.now) links.now result }
+    ensures least { IsLookahead (group_at group_of.now) links.now result }
+    ensures value { result ≡ lookahead_of (group_at group_of.now) links.now }
 {
     let mut least = None;
     for link in links {

@@ -3,7 +3,8 @@
 ghost use Rattle.std.specs.Prelude.{◌≡◌, ◌==◌, ◌<◌, ◌^◌, ◌&&◌, ℕ, All, IfOk, IfErr, OnOk, None, position, option_map, length, ◌↔◌, List};
 ghost use Rattle.std.specs.Option.{option_or};
 ghost use Rattle.partition_cut.specs.AllowedCut.{IsCutOf, is_apart, is_cut};
-ghost use Rattle.partition_cut.specs.Network.{AreGroups, IsShape, group_at, node_lists, nodes_of};
+ghost use Rattle.partition_cut.specs.NamedCut.{listed_cut};
+ghost use Rattle.partition_cut.specs.Network.{AreGroups, IsShape, group_at, node_lists, plain_cut, plain_shape};
 ghost use Rattle.partition_cut.specs.Refusal.{AreAllowed, IsRefusedFor, first_refusal, groups_of, network_refusal, place_refusal};
 ghost use Rattle.partition_cut.specs.declared.network.Shape.{Shape};
 ghost use Rattle.partition_cut.specs.declared.verdict.CutStop.TheVariants.{NoMemory};
@@ -139,8 +140,7 @@ fn check_placed(shape: &Shape, groups: &[Vec<u32>]) -> Result<Cut, CutStop>
     requires groups { AreGroups shape.now (node_lists groups.now) }
     requires placed { place_refusal shape.now (node_lists groups.now) ≡ None }
     ensures allowed { IfOk result (λ cut. IsCutOf shape.now cut) }
-    ensures these { IfOk result (λ cut. (cut.groups ≡ length groups.now)
-        × (cut.group_of.items ≡ groups_of shape.now (node_lists groups.now))) }
+    ensures these { IfOk result (λ cut. plain_cut cut ≡ listed_cut (plain_shape shape.now) (node_lists groups.now)) }
     ensures good { OnOk result (first_refusal shape.now (node_lists groups.now) ≡ None) }
     ensures bad { IfErr result (λ stop. IsRefusedFor stop (first_refusal shape.now (node_lists groups.now))) }
 {
@@ -165,8 +165,7 @@ pub fn check(shape: &Shape, groups: &[Vec<u32>]) -> Result<Cut, CutStop>
     requires shape { IsShape shape.now }
     requires groups { AreGroups shape.now (node_lists groups.now) }
     ensures allowed { IfOk result (λ cut. IsCutOf shape.now cut) }
-    ensures these { IfOk result (λ cut. (cut.groups ≡ length groups.now)
-        × (cut.group_of.items ≡ groups_of shape.now (node_lists groups.now))) }
+    ensures these { IfOk result (λ cut. plain_cut cut ≡ listed_cut (plain_shape shape.now) (node_lists groups.now)) }
     ensures good { OnOk result (first_refusal shape.now (node_lists groups.now) ≡ None) }
     ensures bad { IfErr result (λ stop. IsRefusedFor stop (first_refusal shape.now (node_lists groups.now))) }
 {

@@ -20,16 +20,28 @@ pub answers_first : {A E : Type 0} (stop : Stop E) (c : Check E) (a : A) (d : Re
 answers_first (Refused e) c a d h = stops_first c a d e h
 answers_first NoMemory c a d h = tt
 
--- both parts pass
-pub both_pass : {A E : Type 0} (c : Check E) (a s : A) (f : A → Check E) → (c >> Ok a) ≡ Ok s → f s ≡ Ok tt → (c >> (f a >> Ok a)) ≡ Ok s
-both_pass (Ok tt) a s f h k = ap (λ x. f x >> Ok x) (sym (then_ok_value (Ok tt) a s (sym h))) ∙ ap (λ d. d >> Ok s) k
-both_pass (Err e) a s f h k = cc
+-- the second part refuses
+second_stops : {A B E : Type 0} (c : Check E) (a s : A) (f : A → Check E) (d : Result B E) (e : E) → (c >> Ok a) ≡ Ok s → f s ≡ Err e → (c >> (f a >> d)) ≡ Err e
+second_stops (Ok tt) a s f d e h k = ap (λ r. r >> d) (ap f (sym (then_ok_value (Ok tt) a s (sym h))) ∙ k)
+second_stops (Err g) a s f d e h k = cc
 
-second_stops : {A E : Type 0} (c : Check E) (a s : A) (f : A → Check E) (e : E) → (c >> Ok a) ≡ Ok s → f s ≡ Err e → (c >> (f a >> Ok a)) ≡ Err e
-second_stops (Ok tt) a s f e h k = ap (λ x. f x >> Ok x) (sym (then_ok_value (Ok tt) a s (sym h))) ∙ ap (λ d. d >> Ok s) k
-second_stops (Err d) a s f e h k = cc
+-- it refuses, or memory runs out
+pub answers_second : {A E : Type 0} (stop : Stop E) (c : Check E) (a s : A) (f : A → Check E) (d : Result A E) → (c >> Ok a) ≡ Ok s → Passes {A = Unit {0}} (Err stop) (f s) → Answers {A = A} (Err stop) (c >> (f a >> d))
+answers_second (Refused e) c a s f d h k = second_stops c a s f d e h k
+answers_second NoMemory c a s f d h k = tt
 
--- the second part refuses, or memory runs out
-pub answers_second : {A E : Type 0} (stop : Stop E) (c : Check E) (a s : A) (f : A → Check E) → (c >> Ok a) ≡ Ok s → Passes {A = Unit {0}} (Err stop) (f s) → Answers {A = A} (Err stop) (c >> (f a >> Ok a))
-answers_second (Refused e) c a s f h k = second_stops c a s f e h k
-answers_second NoMemory c a s f h k = tt
+-- three parts pass
+pub all_pass : {A E : Type 0} (c : Check E) (a s : A) (f g : A → Check E) → (c >> Ok a) ≡ Ok s → f s ≡ Ok tt → g s ≡ Ok tt → (c >> (f a >> (g a >> Ok a))) ≡ Ok s
+all_pass (Ok tt) a s f g h k m =
+    ap (λ x. f x >> (g x >> Ok x)) (sym (then_ok_value (Ok tt) a s (sym h))) ∙ ap (λ d. d >> (g s >> Ok s)) k ∙ ap (λ d. d >> Ok s) m
+all_pass (Err e) a s f g h k m = cc
+
+third_stops : {A E : Type 0} (c : Check E) (a s : A) (f g : A → Check E) (e : E) → (c >> Ok a) ≡ Ok s → f s ≡ Ok tt → g s ≡ Err e → (c >> (f a >> (g a >> Ok a))) ≡ Err e
+third_stops (Ok tt) a s f g e h k m =
+    ap (λ x. f x >> (g x >> Ok x)) (sym (then_ok_value (Ok tt) a s (sym h))) ∙ ap (λ d. d >> (g s >> Ok s)) k ∙ ap (λ d. d >> Ok s) m
+third_stops (Err d) a s f g e h k m = cc
+
+-- the third part refuses, or memory runs out
+pub answers_third : {A E : Type 0} (stop : Stop E) (c : Check E) (a s : A) (f g : A → Check E) → (c >> Ok a) ≡ Ok s → f s ≡ Ok tt → Passes {A = Unit {0}} (Err stop) (g s) → Answers {A = A} (Err stop) (c >> (f a >> (g a >> Ok a)))
+answers_third (Refused e) c a s f g h k m = third_stops c a s f g e h k m
+answers_third NoMemory c a s f g h k m = tt

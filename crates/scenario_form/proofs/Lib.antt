@@ -13,3 +13,5 @@ pub mod HeldNumbers
 pub mod AppKeys
 pub mod GroupLimits
 pub mod Within
+pub mod ShapeLaws
+pub mod CutLaws

@@ -1,5 +1,5 @@
 -- An accepted scenario is within the limits.
-use Rattle.std.proofs.Common.{◌≡◌, ◌≢◌, ℕ, zero, suc, ◌+◌, ◌≤◌, ◌<◌, ◌&&◌, nat_lt, nat_eq, not, if◌then◌else◌, Bool, true, false, List, [], ◌∷◌, length, map, get_or, Option, Some, None, Result, Ok, Err, codes, refl, arith}
+use Rattle.std.proofs.Common.{◌≡◌, ◌≢◌, ℕ, zero, suc, ◌+◌, ◌≤◌, ◌<◌, ◌&&◌, nat_lt, nat_eq, not, if◌then◌else◌, Bool, true, false, List, [], ◌∷◌, length, map, get_or, Option, Some, None, Result, Ok, Err, codes, refl, ap, sym, ◌∙◌, arith}
 use Rattle.std.specs.Prelude.{All}
 use Rattle.std.proofs.lemmas.List.Elements.{All-nil, All-cons}
 use Rattle.toml.specs.Data.{Members}
@@ -14,8 +14,9 @@ use Rattle.scenario_form.specs.Checks.{Check, ◌>>◌, refuse_as}
 use Rattle.scenario_form.specs.Rows.{Row, may, flag, row_check, table_check, top_rows, link_rows, lan_rows, route_rows, loss_rows}
 use Rattle.scenario_form.specs.Values.{node_of, node_at, number_at, number_or, tables_at}
 use Rattle.scenario_form.specs.Tables.{rows_of_kind, kind_at, link_of, link_check, link_own_check, lan_of, lan_check, lan_own_check, route_of, route_check, route_own_check, app_of, app_check, loss_of, loss_check, loss_own_check}
-use Rattle.scenario_form.specs.Walk.{scenario_in, refusal, section_check, top_check, walk_check, nodes_of, routing_at}
+use Rattle.scenario_form.specs.Walk.{scenario_in, refusal, section_check, top_check, walk_check, walk_reading, nodes_of, routing_at}
 use Rattle.scenario_form.specs.Across.{across_check}
+use Rattle.scenario_form.specs.Groups.{groups_check}
 use Rattle.scenario_form.specs.Reading.{reading, read_document, document_of, scenario_limit, scenario_of}
 use Rattle.scenario_form.specs.Limits.{IsFromTo, IsLink, IsLan, IsRoute, IsApp, IsLoss, HasKeys, IsWithinLimits}
 use Rattle.scenario_form.proofs.Steps.{first_ok, rest_ok, require_ok, refuse_ok}
@@ -236,21 +237,49 @@ its_value : {A E : Type 0} (c : Check E) (a b : A) → (c >> Ok a) ≡ Ok b → 
 its_value (Ok tt) a b h = cc
 its_value (Err e) a b h = cc
 
-read : (t : Members) (s : Scenario) → reading t ≡ Ok s → IsWithinLimits s
+-- the scenario of tables that passed, behind the checks over all of them
+pub walked_across : (t : Members) (s : Scenario) → walk_reading t ≡ Ok s → across_check s ≡ Ok tt → IsWithinLimits s
+walked_across t s h across =
+    let same : scenario_in t ≡ s = its_value (walk_check t) (scenario_in t) s h in
+    rw (← same) (walked t (before (walk_check t) (Ok (scenario_in t)) s h) (ap across_check same ∙ across))
+
+-- what a document's reading says: the scenario is that of its tables, and passes all checks
+record IsReadFrom (t : Members) (s : Scenario) : Type 0 where
+  same : scenario_in t ≡ s
+  walk : walk_check t ≡ Ok tt
+  across : across_check s ≡ Ok tt
+  groups : groups_check s ≡ Ok tt
+
+read : (t : Members) (s : Scenario) → reading t ≡ Ok s → IsReadFrom t s
 read t s h =
-    let passed : (across_check (scenario_in t) >> Ok (scenario_in t)) ≡ Ok s = behind (walk_check t) (across_check (scenario_in t) >> Ok (scenario_in t)) s h in
-    let same : scenario_in t ≡ s = its_value (across_check (scenario_in t)) (scenario_in t) s passed in
-    rw (← same) (walked t (before (walk_check t) (across_check (scenario_in t) >> Ok (scenario_in t)) s h) (before (across_check (scenario_in t)) (Ok (scenario_in t)) s passed))
+    let made = scenario_in t in
+    let r1 : (across_check made >> (groups_check made >> Ok made)) ≡ Ok s = behind (walk_check t) (across_check made >> (groups_check made >> Ok made)) s h in
+    let r2 : (groups_check made >> Ok made) ≡ Ok s = behind (across_check made) (groups_check made >> Ok made) s r1 in
+    let same : made ≡ s = its_value (groups_check made) made s r2 in
+    record {
+      same = same;
+      walk = before (walk_check t) (across_check made >> (groups_check made >> Ok made)) s h;
+      across = ap across_check (sym same) ∙ before (across_check made) (groups_check made >> Ok made) s r1;
+      groups = ap groups_check (sym same) ∙ before (groups_check made) (Ok made) s r2;
+    }
 
-of_document : (o : Option Members) (s : Scenario) → read_document o ≡ Ok s → IsWithinLimits s
+of_document : (o : Option Members) (s : Scenario) → read_document o ≡ Ok s → (t : Members) × IsReadFrom t s
 of_document None s h = cc
-of_document (Some t) s h = read t s h
+of_document (Some t) s h = (t, read t s h)
 
-of_size : (b : Bool) (o : Option Members) (r : Refusal) (s : Scenario) → (if b then Err r else read_document o) ≡ Ok s → IsWithinLimits s
+of_size : (b : Bool) (o : Option Members) (r : Refusal) (s : Scenario) → (if b then Err r else read_document o) ≡ Ok s → (t : Members) × IsReadFrom t s
 of_size true o r s h = cc
 of_size false o r s h = of_document o s h
 
+of_bytes : (bytes : List ℕ) (s : Scenario) → scenario_of bytes ≡ Ok s → (t : Members) × IsReadFrom t s
+unfolding scenario_of
+of_bytes bytes s h = of_size (nat_lt scenario_limit (length bytes)) (document_of bytes) (TooLong (scenario_limit + 1)) s h
+
 -- the scenario of bytes
 pub accepted : (bytes : List ℕ) (s : Scenario) → scenario_of bytes ≡ Ok s → IsWithinLimits s
-unfolding scenario_of
-accepted bytes s h = of_size (nat_lt scenario_limit (length bytes)) (document_of bytes) (TooLong (scenario_limit + 1)) s h
+accepted bytes s h =
+    let (t, is) = of_bytes bytes s h in
+    rw (← is.same) (walked t is.walk (ap across_check is.same ∙ is.across))
+
+pub accepted-groups : (bytes : List ℕ) (s : Scenario) → scenario_of bytes ≡ Ok s → groups_check s ≡ Ok tt
+accepted-groups bytes s h = (of_bytes bytes s h).1.groups

@@ -8,6 +8,8 @@ pub mod Networks
 pub mod Tables
 pub mod Walk
 pub mod Across
+pub mod Shape
+pub mod Groups
 pub mod Reading
 pub mod Answers
 pub mod Lookups

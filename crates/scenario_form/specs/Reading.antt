@@ -9,10 +9,11 @@ use Rattle.scenario_form.specs.declared.refusal.Refusal.TheVariants.{TooLong, No
 use Rattle.scenario_form.specs.Checks.{◌>>◌}
 use Rattle.scenario_form.specs.Walk.{scenario_in, walk_check}
 use Rattle.scenario_form.specs.Across.{across_check}
+use Rattle.scenario_form.specs.Groups.{groups_check}
 
--- the scenario of a document: its tables pass the walk, and then the checks over all of them
+-- the scenario of a document: its tables pass the walk, then the checks over all of them, and then that of its groups
 abbrev pub reading : Members → Result Scenario Refusal
-reading t = walk_check t >> (across_check (scenario_in t) >> Ok (scenario_in t))
+reading t = walk_check t >> (across_check (scenario_in t) >> (groups_check (scenario_in t) >> Ok (scenario_in t)))
 
 -- no scenario is longer
 abbrev pub scenario_limit : ℕ

@@ -9,6 +9,7 @@ ghost use Rattle.scenario_form.specs.Reading.{reading};
 ghost use Rattle.scenario_form.specs.Answers.{Answers};
 
 use crate::across::check_across;
+use crate::cut::check_groups;
 use crate::fields::top_fields;
 use crate::groups::groups_at;
 use crate::refusal::{Refusal, Stop};
@@ -113,6 +114,10 @@ pub fn read_document(alloc: Global, document: &Table) -> Result<Scenario, Stop<R
         Err(stop) => return Err(stop),
     };
     match check_across(alloc, &scenario) {
+        Ok(()) => {}
+        Err(stop) => return Err(stop),
+    }
+    match check_groups(alloc, &scenario) {
         Ok(()) => Ok(scenario),
         Err(stop) => Err(stop),
     }

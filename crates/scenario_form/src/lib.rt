@@ -3,6 +3,7 @@
 
 mod across;
 mod app;
+mod cut;
 mod document;
 mod field;
 mod fields;
@@ -19,10 +20,12 @@ mod refusal;
 mod route;
 mod scenario;
 mod sections;
+mod shape;
 mod table;
 mod twice;
 mod values;
 
+pub use cut::cut_into;
 pub use field::Code;
 pub use read::{SCENARIO_LIMIT, document_of, read_scenario};
 pub use refusal::{Place, ReadStop, Refusal};

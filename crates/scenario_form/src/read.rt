@@ -2,6 +2,7 @@
 ghost use Rattle.std.specs.Prelude.{◌≡◌, ◌≤◌, length, option_map, Ok, IfOk, OnOk, IfErr};
 ghost use Rattle.toml.specs.View.{table_view};
 ghost use Rattle.scenario_form.specs.Reading.{document_of, scenario_limit, scenario_of};
+ghost use Rattle.scenario_form.specs.Groups.{groups_check};
 ghost use Rattle.scenario_form.specs.Limits.{IsWithinLimits};
 ghost use Rattle.scenario_form.specs.Answers.{Answers, IsRefusalOf};
 
@@ -19,11 +20,13 @@ pub const SCENARIO_LIMIT: usize = 16_777_216;
 /// refusal.
 ///
 /// `TooLong` comes where there are more than 16,777,216 bytes, `NotToml` where the bytes are no TOML
-/// document, and `Schema` where the document isn't a scenario. Every scenario is within the limits.
+/// document, and `Schema` where the document isn't a scenario. Every scenario is within the limits, and
+/// its groups, if it has any, are an allowed cut of its network.
 pub fn read_scenario(alloc: Global, bytes: &[u8]) -> Result<Scenario, ReadStop>
     ensures ok { IfOk result (λ s. scenario_of bytes.now ≡ Ok s) }
     ensures short { OnOk result (length bytes.now ≤ scenario_limit) }
     ensures accepted { IfOk result IsWithinLimits }
+    ensures cut { IfOk result (λ s. groups_check s ≡ Ok tt) }
     ensures refused { IfErr result (IsRefusalOf (scenario_of bytes.now)) }
 {
     match read_bytes(alloc, bytes) {

@@ -17,8 +17,6 @@ pub enum Refusal {
     TooLong { taken: u64 },
     /// The bytes are no TOML document.
     NotToml,
-    /// The scenario asks for what isn't built yet.
-    NotBuilt,
     /// The document isn't a scenario: the first place that is refused, and why.
     Schema { place: Place, code: Code },
 }

@@ -64,7 +64,6 @@ fn answer(alloc: Global, document: &str) -> Result<String, AllocError> {
         }
         Err(ReadStop::Refused(Refusal::TooLong { .. })) => format!(in alloc; "TooLong"),
         Err(ReadStop::Refused(Refusal::NotToml)) => format!(in alloc; "NotToml"),
-        Err(ReadStop::Refused(Refusal::NotBuilt)) => format!(in alloc; "NotBuilt"),
         Err(ReadStop::NoMemory) => Err(AllocError),
     }
 }

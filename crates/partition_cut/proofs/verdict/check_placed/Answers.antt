@@ -49,7 +49,7 @@ returns-in-None-clause-allowed c =
       used = λ g lt. used-groups c.args.shape.now groups items e c.requires.groups (placed-once c.args.shape.now groups c.requires.placed) g (omega arith);
       few = omega arith;
       allowed = network-allowed c.args.shape.now (group_at items) none;
-      lookahead = subst P c.as_slice-numbers.ensures.value (subst Q c.deref.ensures.value c.least_cut_delay-lookahead.ensures);
+      lookahead = subst P c.as_slice-numbers.ensures.value (subst Q c.deref.ensures.value c.least_cut_delay-lookahead.ensures.least);
     }
 
 pub returns-in-None-clause-good : goal.returns-in-None-clause-good
