@@ -2,12 +2,14 @@
 #![tactic(auto)]
 
 mod calls;
+mod gate;
 mod memory;
 mod sink;
 mod source;
 mod store;
 mod system;
 
+pub use gate::{Gate, MeetGate, OpenGate};
 pub use memory::{MemSink, MemSource, MemStore};
 pub use sink::Sink;
 pub use source::{Failed, Source};
