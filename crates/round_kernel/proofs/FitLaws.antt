@@ -1,11 +1,10 @@
 -- An allowed cut of a scenario's network fits its world.
-use Rattle.std.proofs.Common.{◌≡◌, ◌≢◌, ◌⊎◌, ◌==◌, ℕ, ◌+◌, ◌<◌, ◌≤◌, ◌^◌, Bool, true, false, List, [], ◌∷◌, ◌++◌, All, Any, Vec, filter, fold, length, map, Option, Some, None, slice_get, slice_index, get_or, refl, sym, ap, ◌∙◌, subst, arith, inl, inr}
-use Rattle.std.specs.Global.{Global}
+use Rattle.std.proofs.Common.{◌≡◌, ◌≢◌, ◌⊎◌, ◌==◌, ℕ, ◌+◌, ◌<◌, ◌≤◌, ◌^◌, Bool, true, false, List, [], ◌∷◌, All, fold, length, map, Option, Some, None, slice_get, slice_index, get_or, refl, sym, ap, ◌∙◌, subst, arith, inl, inr}
 use Rattle.std.specs.List.{AllByRecursion, enumerate_from, list_any, range_with_len, zip}
 use Rattle.std.specs.Prelude.{◌||◌}
 use Rattle.std.proofs.lemmas.Bool.{cases_Bool, cases_eq, cases_lt, eqb-true}
 use Rattle.std.proofs.lemmas.List.{get_or-map, length-map}
-use Rattle.std.proofs.lemmas.List.Elements.{All-append, All-cons, All-filter, All-head, All-map, All-nil, All-tail, filter_passes}
+use Rattle.std.proofs.lemmas.List.Elements.{All-append, All-cons, All-filter, All-head, All-nil, All-tail, filter_passes}
 use Rattle.std.proofs.lemmas.List.FromFn.{get_or-enumerate_from, get_or-map-range_with_len, length-enumerate_from, length-map-range_with_len}
 use Rattle.std.proofs.lemmas.Option.{get_or_from_slice_get, slice_get-get_or, slice_get-map, slice_get_past, slice_get_within}
 use Rattle.sim_base.specs.declared.key.NodeId.{NodeId}
@@ -13,12 +12,12 @@ use Rattle.sim_base.specs.declared.time.Time.{Time}
 use Rattle.partition_cut.specs.declared.network.Cut.{Cut}
 use Rattle.partition_cut.specs.declared.network.Shape.{Shape}
 use Rattle.partition_cut.specs.AllowedCut.{IsCutOf, IsLookahead}
-use Rattle.partition_cut.specs.Network.{IsShape, Link as ShapeLink, node_lists}
+use Rattle.partition_cut.specs.Network.{Link as ShapeLink}
 use Rattle.round_core.specs.Lookahead.{IsPositive}
 use Rattle.scenario_form.specs.declared.scenario.Lan.{Lan}
 use Rattle.scenario_form.specs.declared.scenario.Link.{Link}
 use Rattle.scenario_form.specs.declared.scenario.Scenario.{Scenario}
-use Rattle.scenario_form.specs.Limits.{IsWithinLimits}
+use Rattle.scenario_form.specs.Shape.{IsNetworkOf, lans_of, numbers_of}
 use Rattle.iface_step.specs.Iface.{PlainIface}
 use Rattle.node_step.specs.Node.{PlainNode}
 use Rattle.node_rules.specs.Health.{IsLong}
@@ -34,7 +33,6 @@ use Rattle.sim_world.specs.Networks.{lan_network, link_network}
 use Rattle.sim_world.specs.World.{around_in, ends_in, node_in, world_of}
 use Rattle.plain_kernel.specs.Run.{shape_in}
 use Rattle.round_kernel.specs.Cut.{Fits, group_of, nanoseconds}
-use Rattle.round_kernel.specs.Scenario.{IsNetworkOf, lans_of, links_of, numbers_of}
 use Rattle.round_kernel.proofs.Begin.{some-mapped}
 
 -- what an interface is attached to
@@ -260,18 +258,3 @@ cut-fits s shape cut are some few is =
     lans_fit : All (LanFits (group_of cut) (nanoseconds cut.lookahead) (lan_group (group_of cut) s.lans)) (enumerate_from 0 s.lans)
     lans_fit = lans-within (group_of cut) s.lans
         (subst (λ (lans : List (List ℕ)). All (λ lan. All (λ a. All (λ b. group_of cut a ≡ group_of cut b) lan) lan) lans) are.lans is.allowed.lans)
-
--- the links and LANs of a scenario name its nodes, and are few
-pub is-shape : (s : Scenario) (shape : Shape) → IsWithinLimits s → IsNetworkOf s shape → IsShape shape
-is-shape s shape within are = record {
-  links = subst (λ (links : List ShapeLink). All (λ link. (link.0 < shape.nodes) × (link.1 < shape.nodes)) links) (sym are.links)
-      (All-map (λ (link : ShapeLink). (link.0 < shape.nodes) × (link.1 < shape.nodes)) (λ (link : Link). (link.a.0, link.b.0, link.delay_ns)) s.links
-      (λ k d low. let link = within.links k d low in let a = link.a in let b = link.b in let nodes = are.nodes in (omega arith, omega arith)));
-  lans = subst (λ (lans : List (List ℕ)). All (λ lan. All (λ node. node < shape.nodes) lan) lans) (sym are.lans)
-      (All-map (λ (lan : List ℕ). All (λ node. node < shape.nodes) lan) (λ (lan : Lan). numbers_of lan.members) s.lans
-      (λ k d low. All-map (λ (node : ℕ). node < shape.nodes) (λ (node : NodeId). node.0) (get_or s.lans k d).members
-      (λ j e there. let below = (within.lans k d low).below j e there in let nodes = are.nodes in omega arith)));
-  few_links = (let l = ap length are.links ∙ length-map s.links (λ (link : Link). (link.a.0, link.b.0, link.delay_ns)) in let few = within.few.links in omega arith);
-  few_lans = (let l = sym (length-map shape.lans.items (λ (list : Vec ℕ Global). list.items)) ∙ ap length are.lans
-      ∙ length-map s.lans (λ (lan : Lan). numbers_of lan.members) in let few = within.few.lans in omega arith);
-}

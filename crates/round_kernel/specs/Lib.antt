@@ -6,4 +6,3 @@ pub mod Stops
 pub mod Left
 pub mod Handing
 pub mod Report
-pub mod Scenario

@@ -10,7 +10,7 @@ ghost use Rattle.partition_cut.specs.declared.network.Cut.{Cut};
 ghost use Rattle.partition_cut.specs.declared.network.Shape.{Shape};
 ghost use Rattle.partition_cut.specs.AllowedCut.{IsCutOf};
 ghost use Rattle.scenario_form.specs.declared.scenario.Scenario.{Scenario};
-ghost use Rattle.round_kernel.specs.Scenario.{IsNetworkOf};
+ghost use Rattle.scenario_form.specs.Shape.{IsNetworkOf};
 ghost use Rattle.round_core.specs.Lines.{lines_of};
 ghost use Rattle.round_core.specs.Parts.{IsIn};
 ghost use Rattle.round_core.specs.Rounds.{Done, Limited, PlainEnds, below, times_of, windows};

@@ -7,12 +7,10 @@ mod groups;
 mod handing;
 mod laws;
 mod left;
-mod network;
 mod report;
 mod round;
 mod rounds;
 mod window;
 
 pub use laws::{allowed_cuts_fit, rounds_of_groups};
-pub use network::shape_of;
 pub use rounds::run_rounds;

@@ -17,12 +17,13 @@ use crate::handing::hand_over;
 use crate::report::report_of;
 use crate::round::{Round, play};
 use crate::window::{least_time, window_end};
-use outside::StoreStop;
+use outside::{Gate, StoreStop};
 use partition_cut::Cut;
 use pkt_face::{Line, Pkt};
 use plain_kernel::{KernelStop, Report};
 use sim_base::Time;
 use sim_world::World;
+use std::thread::Threads;
 use trace_merge::LineOut;
 
 /// Puts a round's lines, if there are any.
@@ -50,11 +51,16 @@ fn put_lines<P: Pkt, L: LineOut<P>>(lines: &mut L, round: &[Line<P>]) -> Result<
 /// later, or at the world's stop. Each group fires its own events below the window's end; the lines of all are merged and put,
 /// and what groups have scheduled for one another is handed over. Where a node may schedule no more, the lines put are those
 /// before the least event at which a group has stopped.
-pub fn run_rounds<P: Pkt, L: LineOut<P>>(
+pub fn run_rounds<R: Threads + Sync, P: Pkt, G: Gate + Sync, L: LineOut<P>>(
+    rt: &R,
     world: World<P>,
     cut: &Cut,
+    workers: u32,
+    gate: &G,
     lines: &mut L,
 ) -> Result<Report, KernelStop>
+    requires some_worker { 1 ≤ workers }
+    requires few_workers { workers ≤ 64 }
     requires opens { OpensRuns world }
     requires stop { world.stop.0 ≤ 10 ^ 12 }
     requires fits { Fits world cut.now }

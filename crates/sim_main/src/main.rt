@@ -1,14 +1,16 @@
 //! The program: it reads a scenario from standard input. `run` runs it, and writes its captures and its
 //! text trace into the working folder and its summary to standard output; `check` writes its sizes.
+//! `demo` runs a scenario of its own.
 //! Where something stops it, it writes one line that says what, and ends with a status other than 0.
 #![tactic(auto)]
 
-use outside::{FolderStore, StdinSource, StdoutSink};
+use outside::{FolderStore, OpenGate, StdinSource, StdoutSink};
 use shared_packet::SharedPkt;
 use sim_base::{NodeId, Time};
 use sim_run::{Code, Refusal, Status, WordCode, WordFault, run_program};
 use std::fs::File;
 use std::process::ExitCode;
+use std::thread::Threads;
 use std::{env, io};
 
 /// How many words of the command line are looked at.
@@ -41,8 +43,8 @@ fn status_of(error: &io::Error) -> Status {
     })
 }
 
-/// Runs the program over the real input, folder and output.
-fn run(rt: &HostRuntime) -> Status {
+/// Runs the program over the real input, folder and output. `threads` is the leave to start workers.
+fn run<R: Threads + Sync>(threads: &R, rt: &HostRuntime) -> Status {
     let words = match words(rt) {
         Ok(words) => words,
         Err(status) => return status,
@@ -53,12 +55,14 @@ fn run(rt: &HostRuntime) -> Status {
     let mut source = StdinSource::new(rt.stdin());
     let mut store = FolderStore::new(rt.alloc(), folder);
     let mut sink = StdoutSink::new(rt.stdout());
-    run_program::<SharedPkt, _, _, _>(
+    run_program::<SharedPkt, R, _, _, _, _>(
+        threads,
         rt.alloc(),
         &words[..words.len().min(WORDS)],
         &mut source,
         &mut store,
         &mut sink,
+        &OpenGate,
     )
 }
 
@@ -87,6 +91,9 @@ fn code_name(code: WordCode) -> &'static str {
         WordCode::UnknownCommand => "UnknownCommand",
         WordCode::NoValue => "NoValue",
         WordCode::UnknownKey => "UnknownKey",
+        WordCode::Repeat => "Repeat",
+        WordCode::BadValue => "BadValue",
+        WordCode::MissingKey => "MissingKey",
     }
 }
 
@@ -95,13 +102,15 @@ fn write_refusal_line(rt: &HostRuntime, refusal: Refusal) -> io::Result<()> {
     match refusal {
         Refusal::TooLong { taken: _ } => println!(rt; "scenario TooLong"),
         Refusal::NotToml => println!(rt; "scenario NotToml"),
-        Refusal::NotBuilt => println!(rt; "scenario NotBuilt"),
         Refusal::Schema { place, code } => {
             let section = place.section;
             let index = place.index;
             let field = place.field;
             let name = refusal_name(code);
-            println!(rt; "scenario {section} {index} {field} {name}")
+            match refusal_number(code) {
+                None => println!(rt; "scenario {section} {index} {field} {name}"),
+                Some(number) => println!(rt; "scenario {section} {index} {field} {name} {number}"),
+            }
         }
     }
 }
@@ -122,6 +131,20 @@ fn refusal_name(code: Code) -> &'static str {
         Code::NoNeighbour => "NoNeighbour",
         Code::Own => "Own",
         Code::NoInterface => "NoInterface",
+        Code::GroupTwice { .. } => "GroupTwice",
+        Code::GroupMissing { .. } => "GroupMissing",
+        Code::Lan { .. } => "Lan",
+        Code::ZeroDelay { .. } => "ZeroDelay",
+    }
+}
+
+/// The number of the node, the LAN or the link that a refusal of groups names.
+fn refusal_number(code: Code) -> Option<u32> {
+    match code {
+        Code::GroupTwice { node } | Code::GroupMissing { node } => Some(node),
+        Code::Lan { lan } => Some(lan),
+        Code::ZeroDelay { link } => Some(link),
+        _ => None,
     }
 }
 
@@ -151,7 +174,7 @@ fn main(rt: HostRuntime) -> ExitCode {
         held_descriptor(&rt),
         held_descriptor(&rt),
     );
-    let status = run(&rt);
+    let status = run(&rt, &rt);
     let status = match write_fault_line(&rt, status) {
         Ok(()) => status,
         Err(_) => Status::WriteFault,

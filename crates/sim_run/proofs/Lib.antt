@@ -12,3 +12,4 @@ pub mod NameLaws
 pub mod PlaceLaws
 pub mod RunFiles
 pub mod CreateLaws
+pub mod PartitionLaws

@@ -1,6 +1,7 @@
 -- What a run leaves in its files, from what it leaves in those that were opened for it.
 use Rattle.std.proofs.Common.{◌≡◌, ℕ, List, [], Option, Result, Ok, Err, subst, append-nil}
 use Rattle.outside.specs.declared.store.File.{File}
+use Rattle.partition_cut.specs.declared.network.Cut.{Cut}
 use Rattle.scenario_form.specs.declared.scenario.Scenario.{Scenario}
 use Rattle.sim_world.specs.World.{PlainWorld, world_of}
 use Rattle.plain_kernel.specs.declared.report.Report.{Report}
@@ -26,12 +27,12 @@ pub heads-begin : (s : Scenario) (first : ℕ) (before after : Option (List File
 heads-begin s first before after new = run-cut before after after first (traces_of s) [] (lines_of s) [] new (grown-none after first) tt
 
 -- what was written of a world with these traces is what a scenario saves, where they are its own
-pub saves-own : (s : Scenario) (w : PlainWorld) (traces : List Trace) (first : ℕ) (mid after : Option (List File)) (result : Result Report RunStop)
-    → w ≡ world_of s → traces ≡ traces_of s → Saves w traces first mid after result → Saves (world_of s) (traces_of s) first mid after result
-saves-own s w traces first mid after result world own saves =
-    subst (λ cs. Saves (world_of s) cs first mid after result) own (subst (λ v. Saves v traces first mid after result) world saves)
+pub saves-own : (s : Scenario) (w : PlainWorld) (cut : Cut) (traces : List Trace) (first : ℕ) (mid after : Option (List File)) (result : Result Report RunStop)
+    → w ≡ world_of s → traces ≡ traces_of s → Saves w cut traces first mid after result → Saves (world_of s) cut (traces_of s) first mid after result
+saves-own s w cut traces first mid after result world own saves =
+    subst (λ cs. Saves (world_of s) cut cs first mid after result) own (subst (λ v. Saves v cut traces first mid after result) world saves)
 
-module _ (s : Scenario) (first : ℕ) (before mid after : Option (List File)) (new : HasNewFiles before mid first (trace_files (traces_of s) [])) where
+module _ (s : Scenario) (cut : Cut) (first : ℕ) (before mid after : Option (List File)) (new : HasNewFiles before mid first (trace_files (traces_of s) [])) where
   whole-files : HasGrownFrom mid after first (written_pieces (traces_of s) (lines_of s)) → HasFiles before after (run_files s (lines_of s))
   whole-files grown = run-files before mid after first (traces_of s) (lines_of s) new grown
 
@@ -44,18 +45,18 @@ module _ (s : Scenario) (first : ℕ) (before mid after : Option (List File)) (n
   begun-cut begun =
       let (lines, begins, partly) = begun in
       let (rest, is) = begins in
-      let (fronts, cut, grown) = partly in
+      let (fronts, are, grown) = partly in
       subst (λ ls. HasFilePrefixes before after (trace_files (traces_of s) ls)) is
-      (run-cut before mid after first (traces_of s) lines rest fronts new grown cut)
+      (run-cut before mid after first (traces_of s) lines rest fronts new grown are)
 
-  pub saves-files : (result : Result Report RunStop) → Saves (world_of s) (traces_of s) first mid after result → IsWhole result
+  pub saves-files : (result : Result Report RunStop) → Saves (world_of s) cut (traces_of s) first mid after result → IsWhole result
       → HasFiles before after (run_files s (lines_of s))
   saves-files (Ok report) saves whole = whole-files saves.1
   saves-files (Err (Limit node time)) saves whole = whole-files saves.1
   saves-files (Err WriteFault) saves whole = absurd whole
   saves-files (Err NoMemory) saves whole = absurd whole
 
-  pub saves-cut : (result : Result Report RunStop) → Saves (world_of s) (traces_of s) first mid after result
+  pub saves-cut : (result : Result Report RunStop) → Saves (world_of s) cut (traces_of s) first mid after result
       → HasFilePrefixes before after (run_files s (lines_of s))
   saves-cut (Ok report) saves = whole-cut saves.1
   saves-cut (Err (Limit node time)) saves = whole-cut saves.1

@@ -5,12 +5,11 @@ pub mod Places
 pub mod Grown
 pub mod Run
 pub mod Summary
+pub mod Report
 pub mod Sizes
-pub mod Reading
 pub mod Input
 pub mod Output
 pub mod Growth
 pub mod Stop
 pub mod Saving
-pub mod Command
 pub mod Plain

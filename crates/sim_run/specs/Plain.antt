@@ -1,17 +1,20 @@
 -- The plain program: what an honest run of one thread would answer, write to files, and print.
-use Rattle.std.specs.Prelude.{◌≡◌, ℕ, List, [], Result, Ok, Err, ◌⊎◌}
+use Rattle.std.specs.Prelude.{◌≡◌, ℕ, List, [], ◌++◌, Result, Ok, Err, ◌⊎◌}
 use Rattle.outside.specs.declared.store.File.{File}
 use Rattle.round_core.specs.Rounds.{Done as Ended, Limited}
 use Rattle.scenario_form.specs.declared.refusal.Refusal.{Refusal}
 use Rattle.scenario_form.specs.declared.scenario.Scenario.{Scenario}
-use Rattle.sim_run.specs.declared.command.Command.{Command}
-use Rattle.sim_run.specs.declared.command.Command.TheVariants.{Run, Check}
-use Rattle.sim_run.specs.declared.command.WordFault.{WordFault}
+use Rattle.command_words.specs.declared.command.Command.{Command}
+use Rattle.command_words.specs.declared.command.Command.TheVariants.{Run, Check, Demo}
+use Rattle.command_words.specs.declared.command.Settings.{Settings}
+use Rattle.command_words.specs.declared.command.WordFault.{WordFault}
 use Rattle.sim_run.specs.declared.status.Status.{Status}
 use Rattle.sim_run.specs.declared.status.Status.TheVariants.{Done, Words, Scenario as Refused, ReadFault, WriteFault, Limit, NoMemory}
 use Rattle.sim_run.specs.Traces.{run_files}
-use Rattle.sim_run.specs.Command.{command_of}
-use Rattle.sim_run.specs.Reading.{reading_of}
+use Rattle.command_words.specs.Command.{command_of}
+use Rattle.scenario_form.specs.Reading.{scenario_of}
+use Rattle.scenario_gen.specs.Demo.{demo_of}
+use Rattle.sim_run.specs.Report.{report_in}
 use Rattle.sim_run.specs.Run.{RunEnding, ending_of, lines_of, events_in, drops_in, counts_in}
 use Rattle.sim_run.specs.Sizes.{sizes_line}
 use Rattle.sim_run.specs.Summary.{summary}
@@ -30,28 +33,51 @@ abbrev pub run_status : RunEnding → Status
 run_status (Ended final) = Done
 run_status (Limited key fired) = Limit key.node key.time
 
--- at its end a run writes its summary, and at a limit nothing
-abbrev pub run_text : Scenario → RunEnding → List ℕ
-run_text s (Ended final) = summary (events_in final) (drops_in s final) s.apps (counts_in s final)
-run_text s (Limited key fired) = []
+-- at its end a run writes its summary, and behind it the report, where it is asked for; at a limit it writes nothing
+abbrev pub run_text : Settings → Scenario → RunEnding → List ℕ
+run_text settings s (Ended final) = summary (events_in final) (drops_in s final) s.apps (counts_in s final) ++ report_in settings s final
+run_text settings s (Limited key fired) = []
 
--- a run makes the traces, and a check writes the sizes of the scenario
+-- a run makes the traces
+abbrev pub ran : Settings → Scenario → Outcome
+ran settings s = record { status = run_status (ending_of s); files = run_files s (lines_of s); text = run_text settings s (ending_of s) }
+
+-- a check writes the sizes of the scenario
 abbrev pub finished : Command → Scenario → Outcome
-finished Run s = record { status = run_status (ending_of s); files = run_files s (lines_of s); text = run_text s (ending_of s) }
+finished (Run settings) s = ran settings s
 finished Check s = record { status = Done; files = []; text = sizes_line s }
+finished (Demo n settings) s = ran settings s
 
 -- a refused scenario is answered alike by every command
 abbrev pub answered : Command → Result Scenario Refusal → Outcome
 answered command (Ok s) = finished command s
 answered command (Err refusal) = refused (Refused refusal)
 
+-- the scenario of a command: that of the input, or the demo's
+abbrev pub scenario_for : Command → List ℕ → Result Scenario Refusal
+scenario_for (Run settings) input = scenario_of input
+scenario_for Check input = scenario_of input
+scenario_for (Demo n settings) input = Ok (demo_of n)
+
 abbrev pub outcome_of : Result Command WordFault → List ℕ → Outcome
-outcome_of (Ok command) input = answered command (reading_of input)
+outcome_of (Ok command) input = answered command (scenario_for command input)
 outcome_of (Err fault) input = refused (Words fault)
 
 -- what the words and the whole input ask for
 abbrev pub plain : List (List ℕ) → List ℕ → Outcome
 plain words input = outcome_of (command_of words) input
+
+-- the fact, where the command reads the input
+abbrev pub WhereRead : Command → Type 0 → Type 0
+WhereRead (Run settings) fact = fact
+WhereRead Check fact = fact
+WhereRead (Demo n settings) fact = Unit {0}
+
+-- the fact, where it doesn't
+abbrev pub WhereUnread : Command → Type 0 → Type 0
+WhereUnread (Run settings) fact = Unit {0}
+WhereUnread Check fact = Unit {0}
+WhereUnread (Demo n settings) fact = fact
 
 -- an answer that comes where the outside or memory fails
 abbrev pub IsFault : Status → Type 0

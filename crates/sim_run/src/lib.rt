@@ -2,14 +2,14 @@
 #![tactic(auto)]
 
 mod captures;
-mod command;
 mod create;
 mod input;
 mod output;
+mod partition;
 mod pieces;
 mod places;
 mod program;
-mod reading;
+mod report;
 mod simulate;
 mod sizes;
 mod status;
@@ -18,7 +18,7 @@ mod summary;
 mod trace_files;
 mod traces;
 
-pub use command::{Command, WordCode, WordFault, read_command};
+pub use command_words::{WordCode, WordFault};
 pub use program::run_program;
 pub use scenario_form::{Code, Place, Refusal};
 pub use status::Status;

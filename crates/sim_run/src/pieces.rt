@@ -14,6 +14,13 @@ use sim_base::{Item, NoMemory, NodeId, Time};
 use std::alloc::Global;
 use std::marker::Model;
 
+/// A piece that is longer than this grows by long stretches.
+const SHORT: usize = 4096;
+
+/// How many bytes such a piece gets room for at once: so many that the C library moves a piece that grows further by its
+/// pages, and copies nothing.
+const STRETCH: usize = 262_144;
+
 /// Traces, and what is to be put behind the file of each. The pieces keep their room.
 #[derive(Drop)]
 pub struct Pieces {
@@ -91,6 +98,7 @@ impl Pieces {
         ensures ok { OnOk result (self.new.pieces ≡ slice_set self.old.pieces place (slice_index_or self.old.pieces place [] ++ captured_packet time.0 frame.now)) }
     {
         let piece = &mut self.pieces[place];
+        make_room(piece, frame.len());
         write_bytes(time, frame, piece)
     }
 
@@ -120,5 +128,16 @@ fn clear_all(pieces: &mut Vec<Vec<u8>>)
 {
     for place in 0..pieces.len() {
         pieces[place].clear();
+    }
+}
+
+/// Makes room in a piece that is about to grow by some bytes and has grown long. Where memory is wanting there is no more
+/// room than before.
+fn make_room(piece: &mut Vec<u8>, count: usize)
+    ensures { piece.new.items ≡ piece.old.items }
+{
+    let room = piece.capacity() - piece.len();
+    if room < count && SHORT < piece.len() {
+        let _ = piece.reserve(STRETCH);
     }
 }

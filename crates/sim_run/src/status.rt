@@ -1,6 +1,6 @@
 //! The answers of a run.
 
-use crate::command::WordFault;
+use command_words::WordFault;
 use scenario_form::Refusal;
 use sim_base::{NodeId, Time};
 

@@ -16,7 +16,7 @@ fn main(rt: HostRuntime) -> Result<()> {
     for line in rt.lines(alloc) {
         let line = line?;
         if line.as_str() == "====" {
-            let told = run::run(alloc, document.as_str())
+            let told = run::run(&rt, alloc, document.as_str())
                 .ok()
                 .context("no memory")?;
             print!(rt; "{told}")?;

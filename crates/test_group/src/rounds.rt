@@ -2,16 +2,17 @@
 
 ghost use Rattle.std.specs.Prelude.{◌≡◌, false};
 ghost use Rattle.scenario_form.specs.Limits.{IsWithinLimits};
-ghost use Rattle.sim_world.specs.NotBuilt.{not_built};
 
+use outside::OpenGate;
 use partition_cut::auto;
 use pkt_face::PlainPkt;
 use plain_kernel::{KernelStop, Report, run_plain};
-use round_kernel::{run_rounds, shape_of};
+use round_kernel::run_rounds;
 use scenario_form::Scenario;
 use sim_base::NoMemory;
 use sim_world::World;
 use std::alloc::Global;
+use std::thread::Threads;
 use trace_merge::{KeptLine, KeptLines};
 
 /// What a run writes.
@@ -25,7 +26,6 @@ struct Told {
 /// The plain run.
 fn run_whole(alloc: Global, scenario: &Scenario) -> Result<Told, NoMemory>
     requires limits { IsWithinLimits scenario.now }
-    requires built { not_built scenario.now ≡ false }
 {
     let Ok(world) = World::<PlainPkt>::make(alloc, scenario) else {
         return Err(NoMemory);
@@ -40,17 +40,16 @@ fn run_whole(alloc: Global, scenario: &Scenario) -> Result<Told, NoMemory>
 }
 
 /// The run in rounds over the groups of the automatic cut.
-fn run_cut(alloc: Global, scenario: &Scenario) -> Result<Told, NoMemory>
+fn run_cut<R: Threads + Sync>(rt: &R, alloc: Global, scenario: &Scenario) -> Result<Told, NoMemory>
     requires limits { IsWithinLimits scenario.now }
-    requires built { not_built scenario.now ≡ false }
 {
     let Ok(world) = World::<PlainPkt>::make(alloc, scenario) else {
         return Err(NoMemory);
     };
-    let shape = shape_of(alloc, scenario)?;
+    let shape = scenario.shape(alloc)?;
     let cut = auto(&shape)?;
     let mut lines = KeptLines::make(alloc);
-    let answer = run_rounds(world, &cut, &mut lines);
+    let answer = run_rounds(rt, world, &cut, 1, &OpenGate, &mut lines);
     Ok(Told {
         answer,
         lines,
@@ -109,12 +108,16 @@ fn add_answer(
 }
 
 /// Tells what a scenario's run in rounds reports, and whether its lines are those of the plain run.
-pub fn add_rounds(alloc: Global, scenario: &Scenario, text: &mut String) -> Result<(), NoMemory>
+pub fn add_rounds<R: Threads + Sync>(
+    rt: &R,
+    alloc: Global,
+    scenario: &Scenario,
+    text: &mut String,
+) -> Result<(), NoMemory>
     requires limits { IsWithinLimits scenario.now }
-    requires built { not_built scenario.now ≡ false }
 {
     let whole = run_whole(alloc, scenario)?;
-    let cut = run_cut(alloc, scenario)?;
+    let cut = run_cut(rt, alloc, scenario)?;
     let same = are_same_lines(whole.lines.lines(), cut.lines.lines());
     let lines = cut.lines.lines().len();
     let groups = cut.groups;

@@ -4,6 +4,12 @@
 #[cfg(test)]
 mod adapters;
 #[cfg(test)]
+mod groups;
+#[cfg(test)]
+mod runs;
+#[cfg(test)]
 mod scenarios;
 #[cfg(test)]
 mod tests;
+#[cfg(test)]
+mod words;

@@ -130,3 +130,66 @@ count = 10
 interval_ns = 1000000
 size = 70
 ";
+
+/// Five nodes in a chain of links with delays of 1000, 3000, 2000 and 0 ns, on which nothing happens.
+pub const CHAIN: &str = "format = 1
+nodes = 5
+stop_ns = 60000000000
+[[link]]
+a = 0
+b = 1
+a_addr = \"10.1.1.1\"
+b_addr = \"10.1.1.2\"
+rate_bps = 8000000
+delay_ns = 1000
+[[link]]
+a = 1
+b = 2
+a_addr = \"10.1.2.1\"
+b_addr = \"10.1.2.2\"
+rate_bps = 8000000
+delay_ns = 3000
+[[link]]
+a = 2
+b = 3
+a_addr = \"10.1.3.1\"
+b_addr = \"10.1.3.2\"
+rate_bps = 8000000
+delay_ns = 2000
+[[link]]
+a = 3
+b = 4
+a_addr = \"10.1.4.1\"
+b_addr = \"10.1.4.2\"
+rate_bps = 8000000
+delay_ns = 0
+";
+
+/// Two nodes of a LAN send to the third.
+pub const THREE_ON_A_LAN: &str = "format = 1
+nodes = 3
+stop_ns = 60000000000
+ascii = false
+[[lan]]
+members = [0, 1, 2]
+addrs = [\"10.1.1.1\", \"10.1.1.2\", \"10.1.1.3\"]
+rate_bps = 100000000
+delay_ns = 1000
+pcap = true
+[[app]]
+kind = \"udp-sink\"
+node = 2
+port = 9
+[[app]]
+kind = \"udp-send\"
+node = 0
+dst = \"10.1.1.3\"
+port = 9
+start_ns = 1000000000
+[[app]]
+kind = \"udp-send\"
+node = 1
+dst = \"10.1.1.3\"
+port = 9
+start_ns = 1000000000
+";

@@ -1,12 +1,9 @@
 //! Runs of the whole program over memory. The expected bytes are worked by hand.
 
+use crate::runs::{assert_no_scenario, assert_run, changed, run};
 use crate::scenarios::{ECHO, FIVE_EVENTS, NO_ROUTE, TWO_DATAGRAMS};
-use outside::{MemSink, MemSource, MemStore};
-use pkt_face::PlainPkt;
 use sim_base::{NodeId, Time};
-use sim_run::{Code, Place, Refusal, Status, WordCode, WordFault, run_program};
-use std::alloc::Global;
-use std::process::Abort;
+use sim_run::{Refusal, Status};
 
 /// What the sink gets of the two datagrams.
 const TWO_DATAGRAMS_SUMMARY: &str = "events 6
@@ -82,89 +79,6 @@ const LATER_HEAD: [u8; 16] = [0, 0, 0, 0, 0x20, 0xa1, 7, 0, 0x64, 0, 0, 0, 0x64,
 const FILE_HEAD: [u8; 24] = [
     0x4d, 0x3c, 0xb2, 0xa1, 2, 0, 4, 0, 0, 0, 0, 0, 0, 0, 0, 0, 0xff, 0xff, 0, 0, 9, 0, 0, 0,
 ];
-
-/// Asserts what a run with these words answers, where the listed calls of the source and of the store
-/// fail, and gives back the store and the sink.
-fn run(
-    rt: &impl Abort,
-    alloc: Global,
-    words: &[&str],
-    input: &[u8],
-    failing: (&[u32], &[u32]),
-    expected: Status,
-) -> (MemStore, MemSink) {
-    let mut texts = Vec::new(alloc);
-    for word in words {
-        let text = String::from_str(alloc, word).expect(rt, "memory");
-        texts.push(text).expect(rt, "memory");
-    }
-    let (reads, writes) = failing;
-    let mut source = MemSource::make(alloc, input, reads).expect(rt, "memory");
-    let mut store = MemStore::make(alloc, writes).expect(rt, "memory");
-    let mut sink = MemSink::make(alloc, &[]).expect(rt, "memory");
-    assert!(rt; texts.len() <= 1000);
-    let status = run_program::<PlainPkt, _, _, _>(
-        alloc,
-        texts.as_slice(),
-        &mut source,
-        &mut store,
-        &mut sink,
-    );
-    assert_eq!(rt; status, expected);
-    (store, sink)
-}
-
-/// Asserts that these words are refused.
-fn assert_refused(rt: &impl Abort, alloc: Global, words: &[&str], place: u32, code: WordCode) {
-    let fault = Status::Words(WordFault { place, code });
-    run(
-        rt,
-        alloc,
-        words,
-        TWO_DATAGRAMS.as_bytes(),
-        (&[], &[]),
-        fault,
-    );
-}
-
-/// Asserts that a command refuses these bytes, and that it makes no file.
-fn assert_no_scenario(
-    rt: &impl Abort,
-    alloc: Global,
-    command: &str,
-    input: &[u8],
-    refusal: Refusal,
-) {
-    let refused = Status::Scenario(refusal);
-    let (store, _sink) = run(rt, alloc, &[command], input, (&[], &[]), refused);
-    assert!(rt; store.files().is_empty());
-}
-
-/// Asserts what a run with these words answers and leaves: the sizes of its files, and its text. Gives back the store.
-fn assert_run(
-    rt: &impl Abort,
-    alloc: Global,
-    words: &[&str],
-    input: &str,
-    failing_writes: &[u32],
-    expected: Status,
-    sizes: &[usize],
-    text: &str,
-) -> MemStore {
-    let failing = ([].as_slice(), failing_writes);
-    let (store, sink) = run(rt, alloc, words, input.as_bytes(), failing, expected);
-    assert_eq!(rt; store.files().len(), sizes.len());
-    for (file, size) in store.files().iter().zip(sizes) {
-        assert_eq!(rt; file.bytes.len(), *size);
-    }
-    assert!(rt; sink.bytes() == text.as_bytes());
-    store
-}
-
-/// A scenario with one part replaced.
-fn changed(rt: &impl Abort, alloc: Global, scenario: &str, old: &str, new: &str) -> String {
-    scenario.replace(alloc, old, new).expect(rt, "memory")
-}
 
 #[test]
 fn two_datagrams_are_captured_and_counted(rt: HostRuntime) {
@@ -311,20 +225,29 @@ fn a_failed_append_leaves_what_was_put_and_no_summary(rt: HostRuntime) {
     assert_run(
         &rt,
         rt.alloc(),
-        &["run"],
+        &["run", "partition=one"],
         ECHO,
         &[6],
         fault,
         &[2164, 24],
         "",
     );
-    assert_run(&rt, rt.alloc(), &["run"], ECHO, &[3], fault, &[0, 0], "");
+    assert_run(
+        &rt,
+        rt.alloc(),
+        &["run", "partition=one"],
+        ECHO,
+        &[3],
+        fault,
+        &[0, 0],
+        "",
+    );
     let input = changed(&rt, rt.alloc(), ECHO, "ascii = false", "ascii = true");
     let traced = input.as_str();
     assert_run(
         &rt,
         rt.alloc(),
-        &["run"],
+        &["run", "partition=one"],
         traced,
         &[6],
         fault,
@@ -342,36 +265,6 @@ fn a_failed_read_makes_no_file(rt: HostRuntime) {
 }
 
 #[test]
-fn least_cost_routes_are_not_built_yet(rt: HostRuntime) {
-    let input = changed(&rt, rt.alloc(), ECHO, "ascii = false", "routing = \"auto\"");
-    let bytes = input.as_bytes();
-    assert_no_scenario(&rt, rt.alloc(), "run", bytes, Refusal::NotBuilt);
-    assert_no_scenario(&rt, rt.alloc(), "check", bytes, Refusal::NotBuilt);
-}
-
-#[test]
-fn a_refusal_of_the_language_comes_before_not_built(rt: HostRuntime) {
-    let routed = changed(&rt, rt.alloc(), ECHO, "ascii = false", "routing = \"auto\"");
-    let input = changed(
-        &rt,
-        rt.alloc(),
-        routed.as_str(),
-        "rate_bps = 5000000",
-        "rate_bps = 5000000.0",
-    );
-    let place = Place {
-        section: 1,
-        index: 0,
-        field: 6,
-    };
-    let refusal = Refusal::Schema {
-        place,
-        code: Code::WrongType,
-    };
-    assert_no_scenario(&rt, rt.alloc(), "run", input.as_bytes(), refusal);
-}
-
-#[test]
 fn a_document_that_is_cut_off_is_no_toml(rt: HostRuntime) {
     let input = b"format = 1\n[[link".as_slice();
     assert_no_scenario(&rt, rt.alloc(), "run", input, Refusal::NotToml);
@@ -382,25 +275,4 @@ fn one_byte_past_the_limit_is_too_long(rt: HostRuntime) {
     let input = vec![in rt.alloc(); b'#'; 16_777_217].expect(&rt, "memory");
     let refusal = Refusal::TooLong { taken: 16_777_217 };
     assert_no_scenario(&rt, rt.alloc(), "run", input.as_slice(), refusal);
-}
-
-#[test]
-fn faulty_words_are_named_by_place_and_code(rt: HostRuntime) {
-    assert_refused(&rt, rt.alloc(), &[], 1, WordCode::NoCommand);
-    assert_refused(&rt, rt.alloc(), &["walk"], 1, WordCode::UnknownCommand);
-    assert_refused(&rt, rt.alloc(), &["run", "fast"], 2, WordCode::NoValue);
-    assert_refused(
-        &rt,
-        rt.alloc(),
-        &["run", "workers=2"],
-        2,
-        WordCode::UnknownKey,
-    );
-    assert_refused(
-        &rt,
-        rt.alloc(),
-        &["check", "workers=2"],
-        2,
-        WordCode::UnknownKey,
-    );
 }

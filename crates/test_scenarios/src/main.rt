@@ -7,12 +7,13 @@ mod capture;
 mod row;
 
 use anyhow::{Context, Result};
-use outside::{File, MemSink, MemSource, MemStore};
+use outside::{File, MemSink, MemSource, MemStore, OpenGate};
 use pkt_face::PlainPkt;
 use row::Row;
 use sim_run::{Status, run_program};
 use std::alloc::Global;
 use std::io;
+use std::thread::Threads;
 
 /// What a row leaves.
 #[derive(Drop)]
@@ -23,7 +24,7 @@ struct Ran {
 }
 
 /// Runs a row.
-fn run(alloc: Global, row: &Row) -> Result<Ran> {
+fn run(threads: &(impl Threads + Sync), alloc: Global, row: &Row) -> Result<Ran> {
     let words = vec![in alloc; String::from_str(alloc, row.command)?]?;
     let mut source = MemSource::make(alloc, row.scenario.as_bytes(), &[])
         .ok()
@@ -32,12 +33,14 @@ fn run(alloc: Global, row: &Row) -> Result<Ran> {
         .ok()
         .context("no memory")?;
     let mut sink = MemSink::make(alloc, &[]).ok().context("no memory")?;
-    let status = run_program::<PlainPkt, MemSource, MemStore, MemSink>(
+    let status = run_program::<PlainPkt, _, MemSource, MemStore, MemSink, OpenGate>(
+        threads,
         alloc,
         &words,
         &mut source,
         &mut store,
         &mut sink,
+        &OpenGate,
     );
     Ok(Ran {
         status,
@@ -77,7 +80,7 @@ fn main(rt: HostRuntime) -> Result<()> {
             status,
             store,
             sink,
-        } = run(alloc, &row)?;
+        } = run(&rt, alloc, &row)?;
         println!(rt; "{title}: {status:?}")?;
         for file in store.files() {
             let said = file_text(alloc, file, row.shown)?;

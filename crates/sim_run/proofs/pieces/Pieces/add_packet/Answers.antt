@@ -1,4 +1,4 @@
-use Rattle.std.proofs.Common.{◌≡◌, ◌<◌, [], ◌++◌, length, map, get_or, slice_set, List, ℕ, ap, subst, arith}
+use Rattle.std.proofs.Common.{◌≡◌, ◌∙◌, ◌<◌, [], ◌++◌, length, map, get_or, slice_set, List, ℕ, ap, subst, arith}
 use Rattle.std.proofs.lemmas.List.{length-map}
 use Rattle.std.proofs.lemmas.Result.{on_ok_weaker}
 use Rattle.pcap_form.specs.Capture.{captured_packet}
@@ -13,10 +13,11 @@ returns-clause-ok c =
     let bytes = captured_packet c.args.time.0 c.args.frame.now in
     let view : map (λ (p : Piece). p.items) pieces ≡ c.args.self.now.pieces = ap (λ (p : PlainPieces). p.pieces) c.self.view_is in
     let within : c.args.place < length pieces = omega (arith, c.requires.within, ap length view, length-map pieces (λ (p : Piece). p.items)) in
-    let grown : c.write_bytes.new.out.items ≡ c.index_mut-piece.result.now.items ++ bytes
+    let grown : c.write_bytes.new.out.items ≡ c.make_room.new.piece.items ++ bytes
     → map (λ (p : Piece). p.items) (slice_set pieces c.args.place c.write_bytes.new.out)
     ≡ slice_set c.args.self.now.pieces c.args.place (get_or c.args.self.now.pieces c.args.place [] ++ bytes) =
     λ more. subst
     (λ (all : List (List ℕ)). map (λ (p : Piece). p.items) (slice_set pieces c.args.place c.write_bytes.new.out) ≡ slice_set all c.args.place (get_or all c.args.place [] ++ bytes))
-    view (added-at pieces c.args.place c.index_mut-piece.result.now c.write_bytes.new.out bytes within c.index_mut-piece.ensures.value more) in
+    view (added-at pieces c.args.place c.index_mut-piece.result.now c.write_bytes.new.out bytes within c.index_mut-piece.ensures.value
+    (more ∙ ap (λ front. front ++ bytes) c.make_room.ensures)) in
     on_ok_weaker c.write_bytes.result grown c.write_bytes.ensures.ok
