@@ -47,9 +47,10 @@ def read(path):
 
 def of_folder(folder):
     """The captures of a folder, by node and interface."""
+    if not pathlib.Path(folder).is_dir():
+        raise Fault(f"there is no folder {folder}")
     paths = [path for path in pathlib.Path(folder).glob("trace-*-*.pcap") if NAME.search(path.name)]
     return [read(path) for path in sorted(paths, key=lambda path: tuple(map(int, NAME.search(path.name).groups())))]
-
 
 
 class Tail:

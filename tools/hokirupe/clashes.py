@@ -1,7 +1,7 @@
 """What lies behind the refusals over all tables: a function for each code, called with the case of `faults`."""
 import ipaddress
 
-from hokirupe import scenario, schema, ways
+from hokirupe import document, scenario, schema, ways, words
 
 
 def twice(case):
@@ -147,22 +147,46 @@ def no_interface(case):
 # Groups
 
 def group_twice(case):
-    case.say(f"node {' '.join(case.more)} stands in two groups, or twice in one")
+    node = case.number
+    places = [(group, at) for group, nodes in enumerate(case.value) for at, one in enumerate(nodes) if one == node]
+    (first, _), (second, at) = places[:2]
+    case.place = case.value[second].places[at]
+    case.say(f"node {node} stands in group {first} already" if second > first else f"node {node} stands twice in group {first}")
     case.say("write: each node in exactly one group")
 
 
 def group_missing(case):
-    case.say(f"node {' '.join(case.more)} stands in no group")
-    case.say("write: each node in exactly one group")
+    node = case.number
+    near = next((group for group, nodes in enumerate(case.value) if node - 1 in nodes), 0)
+    case.say(f"node {node} stands in no group")
+    case.say(f"write: each node in exactly one group, as {_with(case.value, near, node)}")
+
+
+def _with(groups, number, node):
+    """The groups with a node in one of them."""
+    return document.written([[*nodes, node] if at == number else list(nodes) for at, nodes in enumerate(groups)] or [[node]])
+
+
+def _group(case, node):
+    return next(group for group, nodes in enumerate(case.value) if node in nodes)
 
 
 def lan(case):
-    case.say(f"the members of [[lan]] number {' '.join(case.more)} stand in different groups")
+    number = case.number
+    row = case.rows(2)[number]
+    by_group = {}
+    for node in row["members"]:
+        by_group.setdefault(_group(case, node), []).append(str(node))
+    case.say(f"the members of {case.row_name(2, number)} stand in different groups: "
+             + "; ".join(f"{words.listed(nodes)} in group {group}" for group, nodes in sorted(by_group.items())))
     case.say("write: all members of a LAN in one group")
 
 
 def zero_delay(case):
-    case.say(f"[[link]] number {' '.join(case.more)} has no delay, and its ends stand in different groups")
+    number = case.number
+    row = case.rows(1)[number]
+    case.say(f"{case.row_name(1, number)} has no delay, and joins node {row['a']} of group {_group(case, row['a'])} "
+             f"and node {row['b']} of group {_group(case, row['b'])}")
     case.say("write: both of its ends in one group, or give it a delay")
 
 
@@ -170,3 +194,5 @@ CAUSES = {
     "Twice": twice, "NoNeighbour": no_neighbour, "Own": own, "NoInterface": no_interface, "GroupTwice": group_twice,
     "GroupMissing": group_missing, "Lan": lan, "ZeroDelay": zero_delay,
 }
+# Those of a node, a LAN or a link whose number stands behind the code.
+WITH_NUMBER = ("GroupTwice", "GroupMissing", "Lan", "ZeroDelay")

@@ -228,6 +228,8 @@ class _Reader:
         value = _plain(word[0])
         if value is None:
             raise self.fault(f"`{word[0]}` is no value; a text stands in quotes")
+        if isinstance(value, int) and not -2**63 <= value < 2**63:
+            raise self.fault(f"`{word[0]}` is beyond the whole numbers of 64 bits")
         self.at = word.end()
         return value
 

@@ -1,7 +1,8 @@
 """A fault line of the program in words: where it stands in the scenario, what stands there, what is accepted, what to write."""
+import os
 import resource
 
-from hokirupe import causes, clashes, document, schema, unbuilt, words
+from hokirupe import causes, clashes, document, schema, words
 
 CODES = {
     "Unknown": "a key that this table doesn't have",
@@ -25,9 +26,11 @@ CODES = {
 }
 
 
-def explain(fault, text, name, probe=None):
-    """The lines that explain a fault line about a scenario's text; `probe` tells whether the program accepts a document."""
+def explain(fault, text, name, command=None):
+    """The lines that explain a fault line about a scenario's text; `command` has the words of the command line."""
     said = fault.split()
+    if said[:1] == ["words"] and len(said) == 3 and said[1].isdigit():
+        return _words(said, command or [])
     if said[:1] != ["scenario"]:
         return other(fault, text, name)
     if said[1:] == ["TooLong"]:
@@ -38,23 +41,22 @@ def explain(fault, text, name, probe=None):
         return _marked(name, text, error.place, f"NotToml: {error.what}") + ["  the file is no TOML document from here on"]
     if said[1:] == ["NotToml"]:
         return [f"{name}: NotToml: the program finds no TOML document here, and this tool finds no fault in it"]
-    if said[1:] == ["NotBuilt"]:
-        return unbuilt.explain(data, text, name, probe)
     try:
         section, index, field = map(int, said[1:4])
         case = Case(data, section, index, field, said[4], said[5:])
-    except (ValueError, IndexError, KeyError, TypeError):
+        case.look()
+    except (ValueError, LookupError, TypeError, AttributeError, StopIteration):
         return [f"{name}: {fault}: this isn't a fault of this file; has it changed since?"]
-    case.look()
     lines = _marked(name, text, case.place, f"{case.code}: {CODES.get(case.code, 'refused')}")
     return lines + [f"  in {case.where()}"] + [f"  {line}" for line in case.lines]
 
 
 class Case:
-    """A fault of a table: the table, the key, its place, and the lines that say more."""
+    """A fault of a table: the table, the key, its place, the number behind the code, and the lines that say more."""
 
     def __init__(self, data, section, index, field, code, more):
-        self.data, self.section, self.index, self.code, self.more = data, section, index, code, more
+        self.data, self.section, self.index, self.code = data, section, index, code
+        self.number = next((int(word) for word in more if word.isdigit()), None)
         self.table = data if section == 0 else data[schema.TABLES[section]][index]
         self.field = schema.field(section, field)
         self.key = self.field.key if self.field else None
@@ -64,7 +66,7 @@ class Case:
     def look(self):
         self.at_key(self.key)
         tell = {**causes.CAUSES, **clashes.CAUSES}.get(self.code)
-        if tell:
+        if tell and (self.number is not None or self.code not in clashes.WITH_NUMBER):
             tell(self)
 
     # What the causes call
@@ -115,8 +117,6 @@ def _marked(name, text, place, what):
 def other(fault, text, name):
     """The fault lines that aren't about the scenario's form."""
     said = fault.split()
-    if said[:1] == ["words"] and len(said) == 3:
-        return [f"word {said[1]} of the command line: {WORDS.get(said[2], said[2])}"]
     if said[:1] == ["limit"]:
         return _limit(said, text, name)
     for line, lines in STOPS.items():
@@ -127,9 +127,32 @@ def other(fault, text, name):
     return [f"{fault}: this is no fault line of the program"]
 
 
+def _words(said, command):
+    """A fault of the command line, with the word that stands there."""
+    place = int(said[1])
+    word = command[place - 1] if place <= len(command) else None
+    lines = [f"word {place} of the command line{f', `{word}`' if word else ''}: {WORDS.get(said[2], said[2])}"]
+    lines += _accepted(said[2], command, word)
+    if word and os.path.isfile(word):
+        lines.append(f"a scenario is read from standard input; write: ./simulate {' '.join([*command[:place - 1], '<', word])}")
+    return lines
+
+
+def _accepted(code, command, word):
+    """What is accepted in the place of a faulty word."""
+    keys = KEYS.get(command[0] if command else None, {})
+    if code == "BadValue" and word:
+        return [f"accepted: {word.partition('=')[0]}={keys.get(word.partition('=')[0], '..')}"]
+    if code in ("NoValue", "UnknownKey"):
+        return ["accepted: " + (", ".join(f"{key}={value}" for key, value in keys.items()) or "nothing behind this command")]
+    return ["write: ./simulate demo n=40"] if code == "MissingKey" else []
+
+
+_RUN = {"workers": "1 to 64", "partition": "auto, file or one", "report": "yes or no"}
+KEYS = {"run": _RUN, "demo": {"n": "1 to 999", **_RUN}, "check": {}}
 WORDS = {
-    "NoCommand": "a command has to stand there: `run` or `check`",
-    "UnknownCommand": "there is no such command; `run` runs the scenario on standard input, `check` reads it alone",
+    "NoCommand": "a command has to stand there: `run`, `demo` or `check`",
+    "UnknownCommand": "there is no such command; `run` runs the scenario on standard input, `check` reads it alone, `demo` needs none",
     "NoValue": "behind the command stand words of the form key=value",
     "UnknownKey": "the command has no such key",
     "Repeat": "this key stands already",
@@ -142,7 +165,10 @@ STOPS = {
         "a file or standard output couldn't be written: is there room on the disk, and may this folder be written?",
         "each capture stays open to the end, so a run needs as many open files as it has captures, and a few more",
     ],
-    "no memory": ["memory ran out; captures are kept in memory to the end of a run, so fewer of them, or an earlier stop, help most"],
+    "no memory": [
+        "memory ran out; what a window writes is kept in memory to its end, and in one group that is the run's end, so groups, fewer",
+        "captures or an earlier stop help most",
+    ],
 }
 
 
@@ -165,7 +191,7 @@ def _limit(said, text, name):
         most = document.read(text).get("events_per_node", 1_000_000)
     except document.Fault:
         most = 1_000_000
-    where = f"at {words.time(int(said[4]))} node {said[2]}" if len(said) == 5 else "a node, which the fault line names,"
+    where = f"at {words.time(int(said[4]))} node {said[2]}" if len(said) == 5 and said[4].isdigit() else "a node, which the fault line names,"
     return [
         f"{name}: {where} would have scheduled more than {most:_} events, so the run was given up",
         "the captures are whole up to there, and there is no summary",

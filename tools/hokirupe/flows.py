@@ -57,24 +57,50 @@ class Seen:
         return took
 
     def missed(self, first, last, stop):
-        """How many datagrams of one place were lost on the way to another, and how many were under way at the stop."""
-        came = collections.Counter(sighting.frame.datagram.key for sighting in self.places[last])
+        """How many datagrams of one place were lost on the way to another, and how many were under way at the stop. One that
+        was split on the way has come where all of its pieces have."""
+        came = collections.defaultdict(list)
+        for sighting in self.places[last]:
+            came[sighting.frame.datagram.key].append(sighting.frame.datagram.size)
         longest = max((took for _, took in self.delays(first, last)), default=0)
         lost = waiting = 0
         for sighting in self.places[first]:
-            key = sighting.frame.datagram.key
-            if came[key]:
-                came[key] -= 1
-            elif sighting.time + longest >= stop:
+            if _has_come(sighting.frame.datagram, came):
+                continue
+            if sighting.time + longest >= stop:
                 waiting += 1
             else:
                 lost += 1
         return lost, waiting
 
 
+def _has_come(datagram, came):
+    """Whether what came has a datagram, whole or in pieces; takes them away."""
+    *name, offset = datagram.key
+    end, taken = offset + datagram.size, []
+    while True:
+        sizes = came.get((*name, offset))
+        if not sizes:
+            for key, size in taken:
+                came[key].append(size)
+            return False
+        taken.append(((*name, offset), sizes.pop()))
+        offset += taken[-1][1]
+        if offset >= end:
+            return True
+
+
 def jitters(delays):
     """By how much each delay differs from the one before: (when, nanoseconds)."""
     return [(time, abs(took - before)) for (_, before), (time, took) in zip(delays, delays[1:])]
+
+
+def rates(rows, step):
+    """The mean rate of sightings in each step of so many nanoseconds: (the step's number, bit/s), and 0 behind the last."""
+    octets = collections.Counter()
+    for row in rows:
+        octets[row.time // step] += row.frame.length
+    return [(at, octets[at] * 8 * 10**9 / step) for at in range(min(octets), max(octets) + 2)]
 
 
 def sightings(scenario, captures):

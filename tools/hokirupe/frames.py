@@ -18,8 +18,9 @@ class Frame:
 
 
 class Datagram:
-    """An IPv4 datagram, or a piece of one: its header, and the header behind it where it stands whole."""
-    __slots__ = ("src", "dst", "proto", "id", "offset", "more", "ttl", "total", "sport", "dport", "kind", "code", "echo", "seq", "ack", "flags", "data")
+    """An IPv4 datagram, or a piece of one: its header, and the header behind it where it stands whole. `size` counts the bytes
+    behind the IPv4 header, `data` those behind the header that follows it."""
+    __slots__ = ("src", "dst", "proto", "id", "offset", "more", "ttl", "total", "size", "sport", "dport", "kind", "code", "echo", "seq", "ack", "flags", "data")
 
     @property
     def key(self):
@@ -78,7 +79,7 @@ def _datagram(data, at):
     found.offset, found.more = (cut & 0x1FFF) * 8, bool(cut & 0x2000)
     found.sport = found.dport = found.kind = found.code = found.echo = found.seq = found.ack = found.flags = None
     head = (data[at] & 15) * 4
-    found.data = found.total - head
+    found.size = found.data = found.total - head
     if found.offset == 0:
         _transport(found, data, at + head)
     return found

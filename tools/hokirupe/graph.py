@@ -1,6 +1,7 @@
 """A scenario as a graph in Graphviz's language: nodes with their applications, links with rate and delay, LANs, groups."""
 from hokirupe import words
 
+MANY = 60           # nodes, above which edges are drawn straight: curves round the nodes take minutes then
 COLOURS = ("#cfe2f3", "#d9ead3", "#fff2cc", "#f4cccc", "#d9d2e9", "#fce5cd", "#d0e0e3", "#ead1dc", "#e6e6e6", "#c9daf8")
 
 
@@ -27,8 +28,9 @@ def automatic_groups(scenario):
 def dot(scenario, groups, with_addresses=True):
     """The graph's text."""
     colour = {node: COLOURS[number % len(COLOURS)] for number, group in enumerate(groups or []) for node in group}
+    splines = "true" if scenario.nodes <= MANY else "line"
     yield "graph scenario {"
-    yield '  graph [overlap=false, splines=true, outputorder=edgesfirst, nodesep=0.5, ranksep=0.7, pad=0.2, fontname="sans-serif"]'
+    yield f'  graph [overlap=false, splines={splines}, outputorder=edgesfirst, nodesep=0.5, ranksep=1.0, pad=0.2, fontname="sans-serif"]'
     yield '  node [shape=circle, style=filled, fillcolor=white, fontname="sans-serif", fontsize=11, margin=0.03]'
     yield '  edge [fontname="sans-serif", fontsize=9]'
     for node in range(scenario.nodes):

@@ -1,5 +1,4 @@
 """The pictures of tools/plot. matplotlib draws them, and is looked for only when one is asked for."""
-import collections
 import importlib.util
 import logging
 import os
@@ -59,13 +58,10 @@ def throughput(seen, step):
         raise NoPicture("no datagram was captured")
     figure, (axis,) = _axes(1, f"throughput, a mean over each {step / 1e6:g} ms")
     for flow, there in seen.items():
-        place = there.last
-        octets = collections.Counter()
-        for row in there.places[place]:
-            octets[row.time // step] += row.frame.length
-        first, last = min(octets), max(octets)
-        steps = range(first - 1, last + 3)
-        axis.step([at * step / 1e9 for at in steps], [octets[at] * 8e9 / step / 1e6 for at in steps], where="post", label=f"{flow} at {place}")
+        rates = flows.rates(there.places[there.last], step)
+        begin = (rates[0][0] * step / 1e9, 0)
+        points = [begin, *((at * step / 1e9, rate / 1e6) for at, rate in rates)]
+        axis.step([time for time, _ in points], [rate for _, rate in points], where="post", label=f"{flow} at {there.last}")
     axis.set_ylabel("Mbit/s")
     axis.set_ylim(bottom=0)
     _legend(axis, len(seen))

@@ -23,11 +23,6 @@ def answer(program, data):
     return ran.returncode, ran.stdout.decode(errors="replace").strip()
 
 
-def prober(program):
-    """Whether a program accepts a document, as a function, or None without a program."""
-    return (lambda text: answer(program, text.encode())[0] == 0) if program else None
-
-
 def allow_files(count):
     """Lets a program that is started now open so many files, as far as the system lets us."""
     soft, hard = resource.getrlimit(resource.RLIMIT_NOFILE)

@@ -133,10 +133,13 @@ def build(table, path=None):
 
 
 def load(path):
-    """The scenario of a file; raises `document.Fault` or `ValueError` where it is none."""
+    """The scenario of a file; raises `ValueError` where it is none, with what is to be said of it."""
     path = pathlib.Path(path)
-    table = document.read(document.decode(path.read_bytes()))
     try:
-        return Scenario(table, path)
-    except (KeyError, TypeError, ValueError, IndexError, AttributeError) as error:
-        raise ValueError(f"{path} is a document, and no scenario that the program accepts: {error!r}; see what tools/explain says") from None
+        return Scenario(document.read(document.decode(path.read_bytes())), path)
+    except OSError as error:
+        raise ValueError(f"{path}: {error.strerror}") from None
+    except document.Fault as fault:
+        raise ValueError(f"{path}:{fault.place.line}:{fault.place.column}: {fault.what}") from None
+    except (KeyError, TypeError, ValueError, IndexError, AttributeError):
+        raise ValueError(f"{path} is no scenario that the program accepts; tools/explain {path} says why") from None

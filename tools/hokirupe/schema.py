@@ -105,7 +105,7 @@ def field_named(section, key):
 
 def known_keys(section, table):
     """The keys that a table may have, by the kind of an application where it is one."""
-    keys = [field.key for field in FIELDS[section]]
-    if section == 4 and table.get("kind") in KIND_KEYS:
-        return ["kind", "node", *KIND_KEYS[table["kind"]]]
-    return keys
+    kind = table.get("kind")
+    if section == 4 and isinstance(kind, str) and kind in KIND_KEYS:
+        return ["kind", "node", *KIND_KEYS[kind]]
+    return [field.key for field in FIELDS[section]]

@@ -20,10 +20,15 @@ class Routing:
     """The next hop at each node of a scenario. Least costs are looked for when they are first asked for."""
 
     def __init__(self, scenario):
-        self.scenario, self.trees = scenario, {}
+        self.scenario, self.trees, self.hops, self.of_address = scenario, {}, {}, {}
 
     def hop(self, node, dst):
         """The interface that a packet leaves a node by and the end that it goes to, or a cause why there is none."""
+        if (node, dst) not in self.hops:
+            self.hops[node, dst] = self._hop(node, dst)
+        return self.hops[node, dst]
+
+    def _hop(self, node, dst):
         own = [end for end in self.scenario.interfaces[node] if dst in end.network.address]
         listed = [route for route in self.scenario.routes[node] if dst in route.network]
         best = max(listed, key=lambda route: route.network.prefixlen, default=None)
@@ -48,8 +53,9 @@ class Routing:
         return None
 
     def _least(self, node, dst):
-        network = next((network for network in self.scenario.networks if dst in network.address), None)
-        return self.first_hop(node, network) if network else None
+        if dst not in self.of_address:
+            self.of_address[dst] = next((network for network in self.scenario.networks if dst in network.address), None)
+        return self.first_hop(node, self.of_address[dst]) if self.of_address[dst] else None
 
     def first_hop(self, node, network):
         """The first step of a least-cost walk: the least interface, then the least address; None where there is none."""

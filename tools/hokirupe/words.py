@@ -28,3 +28,8 @@ def size(count):
 
 def counted(number, one, many=None):
     return f"{number} {one if number == 1 else many or one + 's'}"
+
+
+def listed(names):
+    """1; 1 and 2; 1, 2 and 3."""
+    return " and ".join(filter(None, (", ".join(names[:-1]), names[-1])))
