@@ -69,6 +69,13 @@ def output(command, folder):
         return None
 
 
+def known(document, name, block):
+    """A scenario in a document is one that the program knows."""
+    asked = subprocess.run([TOP / PROGRAM, "check"], input=block, capture_output=True, text=True)
+    if asked.returncode:
+        sys.exit(f"{document.name}: {name}: the program answers {asked.stdout}")
+
+
 def run(document, folder, lacking):
     """Runs a document's commands; how many were compared."""
     compared = 0
@@ -77,6 +84,7 @@ def run(document, folder, lacking):
             name = re.match(r"# (\w+\.toml)\n", block)
             if name:
                 (folder / name[1]).write_text(block)
+                known(document, name[1], block)
             continue
         for command, wanted in commands(block):
             printed = output(command, folder)

@@ -5,7 +5,7 @@
 
 A few nodes are joined by a tree of networks and some more, with few rates and delays, so that many events fall on the same time;
 queues are short; some routes are missing and some go round in circles; some runs stop early or meet the limit on events. The
-features, of which none is drawn unless it is named: lan, discs, loss, on-off, trace, tcp, fragments, auto.
+features, of which none is drawn unless it is named: lan, discs, loss, on-off, trace, tcp, fragments, auto, groups.
 """
 import random
 import sys
@@ -178,6 +178,19 @@ def table(name, row):
     return f"\n[[{name}]]\n" + "".join(f"{key} = {value(row[key])}\n" for key in row)
 
 
+def groups(draw, described, nodes):
+    """A cut that the program allows: no LAN and no link without delay is cut."""
+    wanted = draw.choice([2, 3, nodes, 2 * nodes])
+    group_of = [draw.randrange(wanted) for _ in range(nodes)]
+    for _, net in described:
+        together = net.get("members", [net["a"], net["b"]] if "a" in net and net["delay_ns"] == 0 else [])
+        joined = {group_of[node] for node in together}
+        group_of = [min(joined) if group in joined else group for group in group_of]
+    members = [[node for node in range(nodes) if group_of[node] == group] for group in sorted(set(group_of))]
+    draw.shuffle(members)
+    return members
+
+
 def scenario(seed, features=frozenset()):
     draw = random.Random(seed)
     nodes = draw.randrange(2, 8)
@@ -190,7 +203,10 @@ def scenario(seed, features=frozenset()):
     auto = "auto" in features and draw.random() < 0.7
     if auto:
         text += 'routing = "auto"\n'
-    text += "".join(table(*described(draw, features, net)) for net in nets)
+    drawn = [described(draw, features, net) for net in nets]
+    if "groups" in features:
+        text += f"groups = {value(groups(random.Random(f'groups {seed}'), drawn, nodes))}\n"
+    text += "".join(table(*net) for net in drawn)
     held = set()
     for route in [] if auto else filter(is_bare, routes(draw, nets, nodes)):
         if (route["node"], route["dest"], route["prefix"]) not in held and route["via"]:
