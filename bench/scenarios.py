@@ -55,8 +55,9 @@ def bulk(node, dst, start, size, port=80):
     return f'\n[[app]]\nkind = "tcp-bulk"\nnode = {node}\ndst = "{dst}"\nport = {port}\nstart_ns = {start}\nbytes = {size}\nmss = 1460\n'
 
 
-def head(nodes, routing="static"):
-    return f'format = 1\nnodes = {nodes}\nstop_ns = 1000000000000\nevents_per_node = 1000000000\nrouting = "{routing}"\n'
+def head(nodes, routing="static", groups=()):
+    cut = f"groups = {[list(group) for group in groups]}\n" if groups else ""
+    return f'format = 1\nnodes = {nodes}\nstop_ns = 1000000000000\nevents_per_node = 1000000000\nrouting = "{routing}"\n{cut}'
 
 
 # A packet lives so many hops, so no flow is longer.
@@ -104,6 +105,17 @@ def one_lan(nodes, datagrams, captures):
     return "".join(parts)
 
 
+def ring(nodes, datagrams, captures):
+    """Nodes in a ring, with routes of least cost. Node 0 sends as far as a packet lives on either side, and to the opposite node."""
+    networks = [f"10.{k // 256}.{k % 256}" for k in range(nodes)]
+    parts = [head(nodes, "auto")]
+    parts += [link(k, (k + 1) % nodes, network, captures) for k, network in enumerate(networks)]
+    goals = sorted({min(LONGEST, nodes // 2), nodes - min(LONGEST, nodes // 2), nodes // 2})
+    parts += [sink(goal) for goal in goals]
+    parts += [sender(0, f"{networks[goal]}.1", k * 100_000, datagrams) for k, goal in enumerate(goals)]
+    return "".join(parts)
+
+
 MEMBERS = 8
 
 
@@ -123,7 +135,7 @@ def ring_of_lans(lans, datagrams, captures):
 
 def fat_tree(arity, datagrams, size, captures):
     """A fat-tree: `arity` pods of hosts, edge and aggregation switches, under (arity / 2)^2 cores. Each host sends to its fellow in
-    another pod: datagrams, or bytes by TCP."""
+    another pod: datagrams, or bytes by TCP. A pod is a group, with its share of the cores."""
     half = arity // 2
     cores, per_pod = half * half, half * half + arity
     networks, parts = [], []
@@ -152,7 +164,9 @@ def fat_tree(arity, datagrams, size, captures):
         _, network = hosts[(pod + 1) % arity, e, h]
         start = number * 100_000
         parts.append(bulk(host, f"{network}.2", start, size) if size else sender(host, f"{network}.2", start, datagrams))
-    return head(cores + arity * per_pod, "auto") + "".join(parts)
+    pods = [range(cores + pod * per_pod, cores + (pod + 1) * per_pod) for pod in range(arity)]
+    groups = [[core for core in range(cores) if core % arity == number] + list(pod) for number, pod in enumerate(pods)]
+    return head(cores + arity * per_pod, "auto", groups) + "".join(parts)
 
 
 def one_bulk(size, captures):
@@ -187,6 +201,7 @@ def made(given):
         "chain": lambda: chain(given.nodes, given.flows, given.datagrams, given.captures),
         "star": lambda: star(given.nodes, given.datagrams, given.captures),
         "lan": lambda: one_lan(given.nodes, given.datagrams, given.captures),
+        "ring": lambda: ring(given.nodes, given.datagrams, given.captures),
         "lans": lambda: ring_of_lans(given.nodes, given.datagrams, given.captures),
         "fat-tree": lambda: fat_tree(given.arity, given.datagrams, given.bytes, given.captures),
         "bulk": lambda: one_bulk(given.bytes, given.captures),
@@ -196,7 +211,7 @@ def made(given):
     return shapes[given.shape]()
 
 
-SHAPES = ["chain", "star", "lan", "lans", "fat-tree", "bulk", "dumbbell", "server"]
+SHAPES = ["chain", "star", "lan", "ring", "lans", "fat-tree", "bulk", "dumbbell", "server"]
 
 
 def main():
