@@ -1,15 +1,21 @@
-//! Capture files in the libpcap format, version 2.4, little-endian with nanoseconds: a head, and then
-//! for each packet a head and its bytes. A captured frame leaves the simulator here.
+//! Capture files in the libpcap format, version 2.4: a head, and then for each packet a head and its
+//! bytes. A captured frame leaves the simulator here, little-endian with nanoseconds; a capture of any
+//! tool, in either byte order, with nanoseconds or microseconds, is read here.
 #![tactic(auto)]
 
+mod capture;
+mod fields;
 mod packets;
+mod reader;
 #[cfg(test)]
 mod tests;
 
 ghost use Rattle.std.specs.Prelude.{◌≡◌, ◌<◌, ◌≤◌, ◌*◌, ◌^◌, ◌++◌, length, OnOk, OnErr};
 ghost use Rattle.pcap_form.specs.Capture.{capture_head, captured_packet, packet_head};
 
+pub use capture::{Capture, CaptureStop, Captured};
 pub use packets::write_packet;
+pub use reader::{CAPTURE_LIMIT, read_capture};
 use sim_base::{NoMemory, Time};
 
 /// How many bytes of a packet a file holds at most.

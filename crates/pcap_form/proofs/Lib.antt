@@ -1,0 +1,5 @@
+pub mod FieldLaws
+pub mod HeadLaws
+pub mod LoopLaws
+pub mod PacketLaws
+pub mod ReadingLaws
