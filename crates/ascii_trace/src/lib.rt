@@ -6,7 +6,7 @@
 #![tactic(auto)]
 
 mod entry;
-mod numbers;
+pub mod numbers;
 #[cfg(test)]
 mod tests;
 mod text;

@@ -55,14 +55,14 @@ pub fn put_seconds(time: Time, row: &mut [u8], end: usize) -> usize
 }
 
 /// A byte for the last digit of a number.
-fn last_digit(number: u64) -> u8
+pub fn last_digit(number: u64) -> u8
     ensures { result ≡ 48 + number % 10 }
 {
     b'0' + (number % 10) as u8
 }
 
 /// The point, and the nine digits of the nanoseconds behind it.
-fn fraction(nanoseconds: u64) -> [u8; 10]
+pub fn fraction(nanoseconds: u64) -> [u8; 10]
     ensures { result ≡ codes "." ++ last_digits 9 nanoseconds }
 {
     let tens = nanoseconds / 10;

@@ -1,5 +1,5 @@
 -- The head of a file is read exactly where the bytes begin with one.
-use Rattle.std.proofs.Common.{ℕ, ◌≡◌, ◌+◌, ◌^◌, ◌<◌, ◌≤◌, Bool, true, false, List, ◌++◌, length, drop, get_or, refl, sym, ap, ◌∙◌, arith, subst}
+use Rattle.std.proofs.Common.{ℕ, ◌≡◌, ◌+◌, ◌<◌, ◌≤◌, Bool, true, false, List, ◌++◌, length, drop, get_or, refl, sym, ap, ◌∙◌, arith, subst}
 use Rattle.std.specs.Prelude.{Option, Some, None, Result, Ok, Err, ◌==◌, nat_lt, if◌then◌else◌}
 use Rattle.std.proofs.lemmas.Bool.{eqb-true, eq-eqb, le-ltb, ltb-false}
 use Rattle.std.proofs.lemmas.List.{drop-drop, get_or-drop, length-drop}
@@ -7,7 +7,7 @@ use Rattle.pcap_form.specs.declared.reader.FileHead.{FileHead}
 use Rattle.pcap_form.specs.declared.reader.Form.{Form}
 use Rattle.pcap_form.specs.CaptureHead.{word, half, number, short_number, magic, HasHead}
 use Rattle.pcap_form.specs.Reading.{form_named, formed, head_of, major_read, minor_read, fields_read, head_fields}
-use Rattle.pcap_form.proofs.FieldLaws.{number-word, short_number-half, drop-word, drop-half, length-word, length-half, word-number, half-short_number, number-lt}
+use Rattle.pcap_form.proofs.FieldLaws.{number-word, short_number-half, drop-word, drop-half, length-word, word-number, half-short_number, number-lt}
 
 pub fits_behind : (n : ℕ) (bytes : List ℕ) → ((k : ℕ) → get_or bytes k 0 < 256) → (k : ℕ) → get_or (drop n bytes) k 0 < 256
 fits_behind n bytes fits k = rw (get_or-drop n bytes k 0) (fits (n + k))

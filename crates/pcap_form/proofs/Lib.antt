@@ -3,3 +3,4 @@ pub mod HeadLaws
 pub mod LoopLaws
 pub mod PacketLaws
 pub mod ReadingLaws
+pub mod WrittenLaws

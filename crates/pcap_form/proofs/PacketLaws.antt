@@ -1,7 +1,7 @@
 -- A packet is read exactly where the bytes begin with one.
 use Rattle.std.proofs.Common.{inl, inr, ℕ, ◌≡◌, ◌+◌, ◌^◌, ◌<◌, ◌≤◌, Bool, true, false, List, ◌++◌, length, take, drop, get_or, refl, sym, ap, ◌∙◌, arith, subst}
-use Rattle.std.specs.Prelude.{Result, Ok, Err, ◌&&◌, nat_le, nat_lt, if◌then◌else◌}
-use Rattle.std.proofs.lemmas.Bool.{le-ltb, ltb-false, leb-false, lt-leb, le-leb, and_right, and_cases}
+use Rattle.std.specs.Prelude.{Ok, Err, ◌&&◌, nat_le, nat_lt, if◌then◌else◌}
+use Rattle.std.proofs.lemmas.Bool.{le-ltb, ltb-false, leb-false, lt-leb, and_right, and_cases}
 use Rattle.std.proofs.lemmas.List.{drop-drop, length-append, length-drop, length-take-le, take-append-drop, drop_at}
 use Rattle.pcap_form.specs.declared.capture.Captured.{Captured}
 use Rattle.pcap_form.specs.declared.reader.Form.{Form}

@@ -1,6 +1,6 @@
 -- A capture is read exactly where the bytes are one.
-use Rattle.std.proofs.Common.{ℕ, zero, suc, ◌≡◌, ◌+◌, ◌<◌, ◌≤◌, ◌⊎◌, Bool, true, false, List, [], ◌∷◌, ◌++◌, length, drop, get_or, refl, sym, ap, ◌∙◌, arith, subst, inl, inr, Fits, w8}
-use Rattle.std.specs.Prelude.{Result, Ok, Err, IfOk, nat_lt, min, if◌then◌else◌}
+use Rattle.std.proofs.Common.{ℕ, zero, suc, ◌≡◌, ◌+◌, ◌<◌, ◌≤◌, ◌⊎◌, Bool, true, false, List, [], ◌∷◌, length, drop, get_or, refl, sym, ap, ◌∙◌, arith, subst, inl, inr, Fits, w8}
+use Rattle.std.specs.Prelude.{Result, Ok, Err, IfOk, nat_lt, if◌then◌else◌}
 use Rattle.std.proofs.lemmas.Bool.{le-ltb, ltb-false}
 use Rattle.std.proofs.lemmas.List.{length-drop}
 use Rattle.pcap_form.specs.declared.capture.Capture.{Capture}
@@ -9,10 +9,10 @@ use Rattle.pcap_form.specs.declared.capture.CaptureStop.{CaptureStop}
 use Rattle.pcap_form.specs.declared.capture.CaptureStop.TheVariants.{Bad, NoMemory}
 use Rattle.pcap_form.specs.declared.reader.FileHead.{FileHead}
 use Rattle.pcap_form.specs.declared.reader.Form.{Form}
-use Rattle.pcap_form.specs.CaptureFile.{file_limit, ArePackets, HasPacket, IsCapture}
+use Rattle.pcap_form.specs.CaptureFile.{file_limit, ArePackets, IsCapture}
 use Rattle.pcap_form.specs.CaptureHead.{HasHead}
 use Rattle.pcap_form.specs.Reading.{behind, capture_of, head_of, headed, limited, packet_of, packets_of, with_packets, IsReading}
-use Rattle.pcap_form.proofs.HeadLaws.{fits_behind, head_spelled, head_read, passed}
+use Rattle.pcap_form.proofs.HeadLaws.{fits_behind, head_spelled, head_read}
 use Rattle.pcap_form.proofs.LoopLaws.{packets_of-nil, packets_of-next, packets_of-stop}
 use Rattle.pcap_form.proofs.PacketLaws.{packet_spelled, packet_read}
 

@@ -1,6 +1,6 @@
 -- The capture of bytes, or where they leave the format. A broken field's place is its first byte, and a field that doesn't stand whole
 -- isn't broken. Bytes that end inside a head or a packet leave the format at their end.
-use Rattle.std.specs.Prelude.{ℕ, ◌≡◌, zero, suc, ◌+◌, ◌==◌, ◌&&◌, nat_le, nat_lt, min, if◌then◌else◌, Bool, true, false, List, [], ◌∷◌, ◌++◌, length, drop, Option, Some, None, Result, Ok, Err}
+use Rattle.std.specs.Prelude.{ℕ, ◌≡◌, zero, suc, ◌+◌, ◌==◌, ◌&&◌, nat_le, nat_lt, min, if◌then◌else◌, true, false, List, [], ◌∷◌, ◌++◌, length, drop, Option, Some, None, Result, Ok, Err}
 use Rattle.pcap_form.specs.declared.capture.Capture.{Capture}
 use Rattle.pcap_form.specs.declared.capture.Captured.{Captured}
 use Rattle.pcap_form.specs.declared.capture.CaptureStop.{CaptureStop}

@@ -5,6 +5,7 @@
 
 mod capture;
 mod fields;
+mod laws;
 mod packets;
 mod reader;
 #[cfg(test)]
@@ -14,6 +15,7 @@ ghost use Rattle.std.specs.Prelude.{◌≡◌, ◌<◌, ◌≤◌, ◌*◌, ◌^
 ghost use Rattle.pcap_form.specs.Capture.{capture_head, captured_packet, packet_head};
 
 pub use capture::{Capture, CaptureStop, Captured};
+pub use laws::written_captures_are_files;
 pub use packets::write_packet;
 pub use reader::{CAPTURE_LIMIT, read_capture};
 use sim_base::{NoMemory, Time};
