@@ -1,0 +1,15 @@
+pub mod RootLaws
+pub mod ClassLaws
+pub mod DropLaws
+pub mod TakenLaws
+pub mod RosterLaws
+pub mod FlowLaws
+pub mod PatienceLaws
+pub mod TurnLaws
+pub mod HeldLaws
+pub mod SoundLaws
+pub mod HistoryLaws
+pub mod OrderLaws
+pub mod PotentialLaws
+pub mod FairLaws
+pub mod StepLaws
