@@ -1,0 +1,7 @@
+pub mod OwnActs
+pub mod Does
+pub mod Others
+pub mod Following
+pub mod Coming
+pub mod BothLives
+pub mod Handshakes

@@ -1,0 +1,3 @@
+pub mod OneConnection
+pub mod Nodes
+pub mod Handshake
