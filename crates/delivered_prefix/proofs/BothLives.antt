@@ -16,8 +16,9 @@ use Rattle.tcp_flow.specs.Index.{InOrder}
 use Rattle.tcp_flow.specs.Life.{Birth, IsSegment, IsTransfer, Life, Opens, WritesBytes, life_of, no_life}
 use Rattle.tcp_flow.specs.Table.{least_free, same_pair}
 use Rattle.tcp_flow.proofs.Indexing.{by_cases}
-use Rattle.delivered_prefix.specs.Nodes.{Awaited, Happening, Here, IsHistory, IsOnItsWay, IsWithinLimits, Node, Nodes, Stage, Stands, There, accepts, happens, is_between, lives, makes, mirrored, nodes_before, opens, reaches, run, stage_after, stage_at}
+use Rattle.delivered_prefix.specs.Nodes.{Awaited, Happening, Here, IsHistory, IsWithinLimits, Node, Nodes, Stage, Stands, There, accepts, happens, is_between, lives, makes, mirrored, nodes_before, opens, reaches, run, stage_after, stage_at}
 use Rattle.delivered_prefix.proofs.Coming.{Came, May, lives-came, lives-grow}
+use Rattle.delivered_prefix.proofs.Replaying.{Contained, IsExact, replay}
 use Rattle.delivered_prefix.proofs.Following.{Begins, IsLifeOf, Lived, awaited-life, taken}
 
 -- ---- the inputs of each node
@@ -42,7 +43,7 @@ sink-run pair w [] = refl
 sink-run pair w (There input ∷ hs) = sink-run pair (happens pair w (There input)) hs
 sink-run pair w (Here input ∷ hs) = sink-run pair (happens pair w (Here input)) hs
 
-within : (pair : SocketPair) (w : Nodes) (hs : List Happening) → IsHistory pair w hs → AllByRecursion IsWithinLimits (theirs hs)
+within : (pair : SocketPair) (w : Nodes) (hs : List Happening) → IsExact pair w hs → AllByRecursion IsWithinLimits (theirs hs)
 within pair w [] h = tt
 within pair w (There input ∷ hs) h = (h.0, within pair (happens pair w (There input)) hs h.1)
 within pair w (Here input ∷ hs) h = within pair (happens pair w (Here input)) hs h.1
@@ -115,7 +116,7 @@ there-sound pair w input s =
       waits = λ none. s.waits (grows.none none);
     }
 
-may-come : (pair : SocketPair) (w : Nodes) (input : In Packet) → IsOnItsWay pair w input →
+may-come : (pair : SocketPair) (w : Nodes) (input : In Packet) → Contained pair w input →
     reaches (stage_at (accepts (mirrored pair)) w.sink.stage w.sink.conns input) w.sink.conns input ≡ true → May (Contains w.opener.life.sent) input
 may-come pair w (Connect now app src sport dst port mss) h b = tt
 may-come pair w (Listen app port) h b = tt
@@ -134,7 +135,7 @@ reaches-made begins stage t input is b made =
 nothing-contained : (s : Seg Packet) → Contains [] s → ⊥
 nothing-contained s h = let low = h.1 in absurd (omega arith)
 
-not-made : (pair : SocketPair) (w : Nodes) (input : In Packet) → IsOnItsWay pair w input → w.sink.stage ≡ Awaited → w.opener.life.sent ≡ [] →
+not-made : (pair : SocketPair) (w : Nodes) (input : In Packet) → Contained pair w input → w.sink.stage ≡ Awaited → w.opener.life.sent ≡ [] →
     accepts (mirrored pair) w.sink.conns input ≡ true → ⊥
 not-made pair w (Connect now app src sport dst port mss) h is none b = absurd (false≢true b)
 not-made pair w (Listen app port) h is none b = absurd (false≢true b)
@@ -150,7 +151,7 @@ still-awaited : (begins : Begins) (stage : Stage) (t : PlainConns) (input : In P
 still-awaited begins stage t input is b =
     ap (λ (x : Stage). stage_at begins x t input) is ∙ cond-false (begins t input) (Stands (least_free 0 t.conns)) Awaited b
 
-here-waits : (pair : SocketPair) (w : Nodes) (input : In Packet) → Sound w → IsOnItsWay pair w input → w.opener.life.sent ≡ [] →
+here-waits : (pair : SocketPair) (w : Nodes) (input : In Packet) → Sound w → Contained pair w input → w.opener.life.sent ≡ [] →
     ((happens pair w (Here input)).sink.stage ≡ Awaited) × ((happens pair w (Here input)).sink.life ≡ no_life)
 here-waits pair w input s h none =
     let a = w.sink in
@@ -160,7 +161,7 @@ here-waits pair w input s h none =
     let still = still-awaited begins a.stage a.conns input before.0 off in
     (ap (λ (x : Stage). stage_after x (step a.conns a.numbers input).state) still, ap (λ (x : Stage). lives x a.conns a.numbers input a.life) still ∙ before.1)
 
-here-sound : (pair : SocketPair) (w : Nodes) (input : In Packet) → Sound w → IsOnItsWay pair w input → Sound (happens pair w (Here input))
+here-sound : (pair : SocketPair) (w : Nodes) (input : In Packet) → Sound w → Contained pair w input → Sound (happens pair w (Here input))
 here-sound pair w input s h =
     let a = w.sink in
     record {
@@ -169,7 +170,7 @@ here-sound pair w input s h =
       waits = here-waits pair w input s h;
     }
 
-sound-run : (pair : SocketPair) (w : Nodes) (hs : List Happening) → Sound w → IsHistory pair w hs → Sound (run pair w hs)
+sound-run : (pair : SocketPair) (w : Nodes) (hs : List Happening) → Sound w → IsExact pair w hs → Sound (run pair w hs)
 sound-run pair w [] s h = s
 sound-run pair w (There input ∷ hs) s h = sound-run pair (happens pair w (There input)) hs (there-sound pair w input s) h.1
 sound-run pair w (Here input ∷ hs) s h = sound-run pair (happens pair w (Here input)) hs (here-sound pair w input s h.0) h.1
@@ -182,8 +183,11 @@ nothing-prefix l written is = subst (λ (x : Life). IsPrefixOf (delivered x.told
 nothing-ends : (l : Life) → l ≡ no_life → has_end l.told ≡ true → ⊥
 nothing-ends l is ended = false≢true (sym (ap (λ (x : Life). has_end x.told) is) ∙ ended)
 
+abbrev IsAll : Life → Life → Type 0
+IsAll there here = has_end here.told ≡ true → (there.closed ≡ true) × (delivered here.told ≡ there.written)
+
 module _ (pair : SocketPair) (there : PlainConns) (n : Numbers) (here : PlainConns) (m : Numbers) (happenings : List Happening)
-    (there-order : InOrder there.conns) (here-order : InOrder here.conns) (history : IsHistory pair (nodes_before there n here m) happenings) where
+    (there-order : InOrder there.conns) (here-order : InOrder here.conns) (history : IsExact pair (nodes_before there n here m) happenings) where
   abbrev start : Nodes
   start = nodes_before there n here m
 
@@ -226,9 +230,9 @@ module _ (pair : SocketPair) (there : PlainConns) (n : Numbers) (here : PlainCon
             (subst (λ (l : Life). All (Contains end.opener.life.sent) l.came) s.is sound.came);
       }
 
-  pub prefix-of : ((opener sink : Birth) (those these : List (In Packet)) → IsTransfer opener sink those these → IsPrefixOf (delivered (life_of sink these).told) (life_of opener those).written) →
+  prefix-exact : ((opener sink : Birth) (those these : List (In Packet)) → IsTransfer opener sink those these → IsPrefixOf (delivered (life_of sink these).told) (life_of opener those).written) →
       IsPrefixOf (delivered end.sink.life.told) end.opener.life.written
-  prefix-of law =
+  prefix-exact law =
       ⊎_elim (λ (none : end.sink.life ≡ no_life). nothing-prefix end.sink.life end.opener.life.written none)
       (λ (s : SinksLife).
       ⊎_elim (λ (none : end.opener.life ≡ no_life). nothing-prefix end.sink.life end.opener.life.written (unsent none))
@@ -238,12 +242,9 @@ module _ (pair : SocketPair) (there : PlainConns) (n : Numbers) (here : PlainCon
       opener-lived)
       sink-lived
 
-  abbrev IsAll : Life → Life → Type 0
-  IsAll there here = has_end here.told ≡ true → (there.closed ≡ true) × (delivered here.told ≡ there.written)
-
-  pub end-of : ((opener sink : Birth) (those these : List (In Packet)) → IsTransfer opener sink those these → IsAll (life_of opener those) (life_of sink these)) →
+  end-exact : ((opener sink : Birth) (those these : List (In Packet)) → IsTransfer opener sink those these → IsAll (life_of opener those) (life_of sink these)) →
       IsAll end.opener.life end.sink.life
-  end-of law =
+  end-exact law =
       ⊎_elim (λ (none : end.sink.life ≡ no_life) ended. absurd (nothing-ends end.sink.life none ended))
       (λ (s : SinksLife).
       ⊎_elim (λ (none : end.opener.life ≡ no_life) ended. absurd (nothing-ends end.sink.life (unsent none) ended))
@@ -252,3 +253,22 @@ module _ (pair : SocketPair) (there : PlainConns) (n : Numbers) (here : PlainCon
       (subst (λ (l : Life). IsAll (life_of o.birth o.inputs) l) (sym s.is) (law o.birth s.birth o.inputs s.inputs (transfer o s))))
       opener-lived)
       sink-lived
+
+-- where segments come as they were sent, the history goes as one in which their very packets come
+module _ (pair : SocketPair) (there : PlainConns) (n : Numbers) (here : PlainConns) (m : Numbers) (happenings : List Happening)
+    (there-order : InOrder there.conns) (here-order : InOrder here.conns) (history : IsHistory pair (nodes_before there n here m) happenings) where
+  abbrev last : Nodes
+  last = run pair (nodes_before there n here m) happenings
+
+  pub prefix-of : ((opener sink : Birth) (those these : List (In Packet)) → IsTransfer opener sink those these → IsPrefixOf (delivered (life_of sink these).told) (life_of opener those).written) →
+      IsPrefixOf (delivered last.sink.life.told) last.opener.life.written
+  prefix-of law =
+      let r = replay pair (nodes_before there n here m) happenings [] history in
+      subst (λ (w : Nodes). IsPrefixOf (delivered w.sink.life.told) w.opener.life.written) r.is
+      (prefix-exact pair there n here m r.replayed there-order here-order r.exact law)
+
+  pub end-of : ((opener sink : Birth) (those these : List (In Packet)) → IsTransfer opener sink those these → IsAll (life_of opener those) (life_of sink these)) →
+      IsAll last.opener.life last.sink.life
+  end-of law =
+      let r = replay pair (nodes_before there n here m) happenings [] history in
+      subst (λ (w : Nodes). IsAll w.opener.life w.sink.life) r.is (end-exact pair there n here m r.replayed there-order here-order r.exact law)

@@ -271,7 +271,7 @@ module _ (reads : (uid : Uid) (app : ℕ) (pair : SocketPair) (says : Heard) (by
         sent = sent;
         history = (
           (limits.port, limits.other_port, limits.some, limits.most),
-          (λ reached. subst (λ (ss : List (Seg Packet)). Contains ss syn) (sym sent) (Contains-push [] syn), tt),
+          (λ reached. (syn, subst (λ (ss : List (Seg Packet)). Contains ss syn) (sym sent) (Contains-push [] syn), record { src = refl; dst = refl; bytes = refl }), tt),
         );
         opener = subst (IsEnd true ask.app pair SynSent) (sym they-stand) their-end;
         sink = subst (IsEnd false listener far SynReceived) (sym we-stand) our-end;

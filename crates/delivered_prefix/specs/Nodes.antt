@@ -7,6 +7,7 @@ use Rattle.sim_base.specs.Packet.{Packet}
 use Rattle.tcp_wire.specs.declared.words.SocketPair.{SocketPair}
 use Rattle.tcp_wire.specs.declared.words.Arrived.{Arrived}
 use Rattle.tcp_wire.specs.Segment.{arrived}
+use Rattle.tcp_flow.specs.declared.words.Seg.{Seg}
 use Rattle.tcp_flow.specs.declared.words.In.{In}
 use Rattle.tcp_flow.specs.declared.words.In.TheVariants.{Connect, Segment, Write}
 use Rattle.tcp_flow.specs.Conns.{PlainConns, step}
@@ -122,12 +123,22 @@ IsWithinLimits (Connect now app src sport dst port mss) = (sport < 2 ^ 16) × (p
 IsWithinLimits (Write now app bytes) = All (λ b. b < 256) bytes
 IsWithinLimits other = Unit {0}
 
--- A segment that makes or reaches the sink's end is one that the opener's end has sent, as it was. It may have come before, and
--- others that were sent earlier may still come or never do
+-- A segment comes as it was sent: between the same addresses, with the same bytes. The number, tags and items of its packet say
+-- nothing to TCP, and may be others where it was split on its way and put together again
+pub record IsAsSent (sent come : Seg Packet) : Type 0 where
+  pub src : come.src ≡ sent.src
+  pub dst : come.dst ≡ sent.dst
+  pub bytes : come.packet.bytes ≡ sent.packet.bytes
+
+abbrev pub WasSent : List (Seg Packet) → Seg Packet → Type 0
+WasSent sent s = (earlier : Seg Packet) × Contains sent earlier × IsAsSent earlier s
+
+-- A segment that makes or reaches the sink's end is one that the opener's end has sent. It may have come before, and others that
+-- were sent earlier may still come or never do
 abbrev pub IsOnItsWay : SocketPair → Nodes → In Packet → Type 0
 IsOnItsWay pair w (Segment now s) =
     reaches (stage_at (accepts (mirrored pair)) w.sink.stage w.sink.conns (Segment now s)) w.sink.conns (Segment now s) ≡ true →
-    Contains w.opener.life.sent s
+    WasSent w.opener.life.sent s
 IsOnItsWay pair w other = Unit {0}
 
 -- Nothing else is asked: the opener's end may hear anything at all, and all other connections of both nodes too; timers fire
