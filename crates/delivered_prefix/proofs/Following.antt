@@ -32,6 +32,10 @@ after stage t n input l = let s = step t n input in node s.state s.numbers (stag
 pub next-in_order : (t : PlainConns) (n : Numbers) (input : In Packet) → InOrder t.conns → InOrder (step t n input).state.conns
 next-in_order t n input order = in_order t n input (step t n input) order (concerned t input) (step-does t n input order)
 
+pub is-number : (m : ℕ) (c : Option ℕ) → is_number m c ≡ true → c ≡ Some m
+is-number m None h = absurd (false≢true h)
+is-number m (Some x) h = ap Some (eqb-true x m h)
+
 module _ (begins : Begins) where
   -- an end that is removed lives no more
 
@@ -67,10 +71,6 @@ module _ (begins : Begins) where
 
     abbrev pub Lived : Life → Type 0
     Lived l = (l ≡ no_life) ⊎ IsLifeOf l
-
-    is-number : (m : ℕ) (c : Option ℕ) → is_number m c ≡ true → c ≡ Some m
-    is-number m None h = absurd (false≢true h)
-    is-number m (Some x) h = ap Some (eqb-true x m h)
 
     born-life : (t : PlainConns) (n : Numbers) (input : In Packet) (inputs : List (In Packet)) → InOrder t.conns → begins t input ≡ true →
         W input → AllByRecursion W inputs → IsLifeOf (taken begins (after (Stands (least_free 0 t.conns)) t n input no_life) inputs).life

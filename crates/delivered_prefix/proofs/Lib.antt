@@ -2,6 +2,7 @@ pub mod OwnActs
 pub mod Does
 pub mod Others
 pub mod Following
+pub mod Numbered
 pub mod Coming
 pub mod Replaying
 pub mod BothLives

@@ -1,21 +1,23 @@
 -- The acts of one connection are its own, and a refusal is nobody's.
-use Rattle.std.proofs.Common.{ℕ, Bool, true, false, cond, List, [], ◌∷◌, length, refl}
+use Rattle.std.proofs.Common.{ℕ, Bool, true, false, cond, List, [], ◌∷◌, length, refl, ◌≡◌, ◌+◌, ◌%◌, ◌^◌}
 use Rattle.std.specs.List.{All}
 use Rattle.std.proofs.lemmas.List.Elements.{All-cons, All-nil}
 use Rattle.sim_base.specs.declared.numbers.Numbers.{Numbers}
 use Rattle.sim_base.specs.Packet.{Packet, from_bytes}
 use Rattle.layer_words.specs.Acts.{Made}
 use Rattle.layer_words.specs.Counting.{new_uid, with_packet}
+use Rattle.tcp_conn.specs.declared.words.Heard.{Heard}
 use Rattle.tcp_conn.specs.declared.words.Effect.{Effect}
 use Rattle.tcp_conn.specs.declared.words.Effect.TheVariants.{Emit, TimerAt, Connected, Room, Deliver, End, Reset, Dropped}
 use Rattle.tcp_conn.specs.OnItsWay.{said, bytes_of}
+use Rattle.tcp_conn.specs.Send.{one}
 use Rattle.tcp_wire.specs.declared.words.Arrived.{Arrived}
 use Rattle.tcp_wire.specs.Segment.{segment}
 use Rattle.tcp_flow.specs.declared.words.Act.{Act}
 use Rattle.tcp_flow.specs.declared.words.Act.TheVariants.{Emit as EmitAct, TimerAt as TimerAct, Connected as ConnectedAct, Room as RoomAct, Deliver as DeliverAct, End as EndAct, Reset as ResetAct, Dropped as DroppedAct}
 use Rattle.tcp_flow.specs.declared.conn.Conn.{Conn}
 use Rattle.tcp_flow.specs.Conn.{done, all_done}
-use Rattle.tcp_flow.specs.Stray.{answering, refusal, refused}
+use Rattle.tcp_flow.specs.Stray.{answering, refusal, refused, reset_at}
 use Rattle.delivered_prefix.specs.OneConnection.{IsActOf, IsNobodys}
 
 -- ---- a connection's
@@ -49,8 +51,17 @@ either-nobodys : (b : Bool) (x y : Made (Act Packet)) → All IsNobodys x.acts �
 either-nobodys true x y h g = h
 either-nobodys false x y h g = g
 
+either-resets : (b : Bool) (x y : Heard) → x.rst ≡ true → y.rst ≡ true → (cond b x y).rst ≡ true
+either-resets true x y h g = h
+either-resets false x y h g = g
+
+refusal-resets : (s : Heard) (bytes : ℕ) → (refusal s bytes).rst ≡ true
+refusal-resets s bytes =
+    either-resets s.has_ack (reset_at s.ack 0 false) (reset_at 0 ((s.seq + bytes + one s.syn + one s.fin) % 2 ^ 32) true) refl refl
+
 pub refused-nobodys : (src dst : ℕ) (a : Arrived) (n : Numbers) → All IsNobodys (refused src dst a n).acts
 refused-nobodys src dst a n =
-    let act = EmitAct (record { src = dst; dst = src; packet = segment (new_uid n) 0 (answering src dst a) (refusal a.says (length a.bytes)) [] }) in
+    let says = refusal a.says (length a.bytes) in
+    let act = EmitAct (record { src = dst; dst = src; packet = segment (new_uid n) 0 (answering src dst a) says [] }) in
     either-nobodys a.says.rst (record { numbers = n; acts = [] }) (record { numbers = with_packet n; acts = act ∷ [] }) (All-nil IsNobodys)
-    (All-cons IsNobodys act [] tt (All-nil IsNobodys))
+    (All-cons IsNobodys act [] (new_uid n, answering src dst a, says, refusal-resets a.says (length a.bytes), refl) (All-nil IsNobodys))

@@ -1,5 +1,5 @@
 -- What an input is to the one connection that it concerns, and what it leaves of the others.
-use Rattle.std.specs.Prelude.{ℕ, ◌≡◌, true, if◌then◌else◌, List, Option, None, Some}
+use Rattle.std.specs.Prelude.{ℕ, ◌≡◌, true, if◌then◌else◌, List, [], Option, None, Some}
 use Rattle.std.specs.List.{All}
 use Rattle.std.specs.Option.{option_map}
 use Rattle.sim_base.specs.declared.numbers.Numbers.{Numbers}
@@ -51,9 +51,11 @@ IsActOf k (End app) = app ≡ k.app
 IsActOf k (Reset app) = app ≡ k.app
 IsActOf k Dropped = Unit {0}
 
--- an act of no connection: the RST that refuses a segment, or a drop
+-- an act of no connection: a RST, which refuses a segment, or a drop
 abbrev pub IsNobodys : Act Packet → Type 0
-IsNobodys (Emit s) = Unit {0}
+IsNobodys (Emit s) =
+    (uid : Uid) × (pair : SocketPair) × (says : Heard) × (says.rst ≡ true)
+    × (s ≡ record { src = pair.addr; dst = pair.other_addr; packet = segment uid 0 pair says [] })
 IsNobodys (TimerAt at conn stamp) = ⊥
 IsNobodys (Connected app) = ⊥
 IsNobodys (Room app free) = ⊥
@@ -93,3 +95,7 @@ pub record Begins (t : PlainConns) (n : Numbers) (input : In Packet) (number : �
   pub numbers : (step t n input).numbers ≡ (begun number app pair n first).numbers
   pub acts : (step t n input).acts ≡ (begun number app pair n first).acts
   pub own : All (IsActOf (fresh number app pair first.now)) (step t n input).acts
+
+-- each connection has the number under which it stands
+abbrev pub AreNumbered : List (ℕ × Conn) → Type 0
+AreNumbered conns = (number : ℕ) (k : Conn) → under number conns ≡ Some k → k.number ≡ number

@@ -14,7 +14,7 @@ ghost use Rattle.tcp_flow.specs.Life.{concerned, is_number};
 ghost use Rattle.tcp_flow.specs.Table.{under};
 ghost use Rattle.delivered_prefix.specs.Handshake.{Ask, BeginsTransfer, IsAsk, IsReady};
 ghost use Rattle.delivered_prefix.specs.Nodes.{Happening, IsHistory, nodes_before, run};
-ghost use Rattle.delivered_prefix.specs.OneConnection.{Begins, GoesOn, IsNobodys};
+ghost use Rattle.delivered_prefix.specs.OneConnection.{AreNumbered, Begins, GoesOn, IsNobodys};
 
 /// An input concerns one connection of a node or none. It leaves every other one as it is; what becomes of the one, and
 /// what is to be done then, is what one event makes of that connection alone, or what makes a new one; and where it
@@ -28,6 +28,7 @@ pub fn inputs_concern_one_connection()
         Begins t n input number }
     ensures nobodys { (t : PlainConns) (n : Numbers) (input : In Packet) → InOrder t.conns → concerned t input ≡ None → All IsNobodys (step t n input).acts }
     ensures order { (t : PlainConns) (n : Numbers) (input : In Packet) → InOrder t.conns → InOrder (step t n input).state.conns }
+    ensures numbered { (t : PlainConns) (n : Numbers) (input : In Packet) → InOrder t.conns → AreNumbered t.conns → AreNumbered (step t n input).state.conns }
 {}
 
 /// Of a connection that an application opens at one node and whose SYN makes the other end at another, whatever the two

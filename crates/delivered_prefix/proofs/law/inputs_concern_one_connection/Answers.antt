@@ -1,6 +1,7 @@
 use Rattle.tcp_flow.specs.Conns.{step}
 use Rattle.tcp_flow.specs.Life.{concerned}
 use Rattle.delivered_prefix.proofs.Does.{step-does}
+use Rattle.delivered_prefix.proofs.Numbered.{numbered}
 use Rattle.delivered_prefix.proofs.Others.{others, in_order, nobodys, goes_on, begins}
 use Rattle.delivered_prefix.proofs.law.inputs_concern_one_connection.Goals as goal
 
@@ -19,3 +20,6 @@ returns-clause-nobodys c t n input order none = nobodys t n input (step t n inpu
 
 pub returns-clause-order : goal.returns-clause-order
 returns-clause-order c t n input order = in_order t n input (step t n input) order (concerned t input) (step-does t n input order)
+
+pub returns-clause-numbered : goal.returns-clause-numbered
+returns-clause-numbered c t n input order all number k found = numbered t n input order all number k found
