@@ -45,7 +45,7 @@ set-other xs i n y other = elim (slice_get_cases xs n).1 [
 ]
 
 -- groups that have run or stopped, none for want of memory
-pub have-gone : (end : ℕ) (old new : List Gone) → AreMade (λ o n. HasGone end o.0 n.0 n.1) old new →
+pub have-gone : (end : ℕ) (old new : List Gone) → AreMade (λ _ o n. HasGone end o.0 n.0 n.1) old new →
     All (λ group. group.1 ≢ Some NoMemory) new → HaveGone end (lps_of old) new
 have-gone end old new made memory = record {
   count = made.count ∙ sym (length-lps old);

@@ -18,4 +18,5 @@ pub mod Making
 pub mod PlayLaws
 pub mod FitLaws
 pub mod AnswerLaws
+mod TurnLaws
 pub mod LoopLaws

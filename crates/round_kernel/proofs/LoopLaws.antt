@@ -7,7 +7,6 @@ use Rattle.std.proofs.lemmas.List.{append-nil, map-append, take_more}
 use Rattle.std.proofs.lemmas.List.Sums.{fold_push}
 use Rattle.std.proofs.lemmas.Option.{slice_get-get_or}
 use Rattle.lp_run.specs.Lp.{IsWellLp}
-use Rattle.row_work.proofs.MadeLaws.{MadeTo, all-at, made-step}
 use Rattle.round_kernel.specs.Window.{Gone, HasGone}
 
 module _ {A B : Type 0} (xs : List A) (n : ℕ) (x : A) (low : n < length xs) (is : x ≡ get_or xs n x) where
@@ -74,18 +73,6 @@ module _ {A : Type 0} (f : A → A) where
         ap (λ l. set l n item) are ∙ ap (set (map f (take n old) ++ drop n old) n) (made ∙ ap f here)
             ∙ changed-set old n d (omega arith) ∙ ap (λ m. map f (take m old) ++ drop m old) s,
       )
-
-module _ (end : ℕ) (old now : List Gone) (at : ℕ) (from d : Gone) (made : MadeTo (λ o n. HasGone end o.0 n.0 n.1) old now at) (low : at < length now)
-    (is : from ≡ get_or now at d) where
-  there : slice_get now at ≡ Some from
-  there = slice_get-get_or now at d low ∙ ap Some (sym is)
-
-  -- the next group that is to run is well
-  pub well-next : All (λ group. IsWellLp group.0) old → IsWellLp from.0
-  well-next all = all-at (λ (group : Gone). IsWellLp group.0) old at from all (sym (made.behind at (omega arith)) ∙ there)
-
-  pub run-more : (item : Gone) → HasGone end from.0 item.0 item.1 → MadeTo (λ o n. HasGone end o.0 n.0 n.1) old (set now at item) (at + 1)
-  run-more item gone = made-step (λ (o n : Gone). HasGone end o.0 n.0 n.1) old now (set now at item) at from item made there gone refl
 
 -- the group that is read at a number is the one that stands there
 pub same-group : (groups : List Gone) (n : ℕ) (group read : Gone) → n < length groups → slice_get groups n ≡ Some group → read ≡ get_or groups n read → group ≡ read

@@ -22,7 +22,7 @@ left-of : (groups : List Gone) → lps_of (map emptied_group groups) ≡ map (λ
 left-of [] = refl
 left-of (group ∷ groups) = ap (λ l. emptied group.0 ∷ l) (left-of groups)
 
-module _ {P : Type 0} (plain : P → Packet) (end : ℕ) (old gone : List Gone) (made : AreMade (λ o n. HasGone end o.0 n.0 n.1) old gone)
+module _ {P : Type 0} (plain : P → Packet) (end : ℕ) (old gone : List Gone) (made : AreMade (λ _ o n. HasGone end o.0 n.0 n.1) old gone)
     (memory : All (λ group. group.1 ≢ Some NoMemory) gone) (lists : List (Vec (Line P) Global)) (lists_are : plain_lists plain lists ≡ full_lines gone) where
   -- the lists of lines can be merged
   pub can-merge : ((new : List Gone) → HaveGone end (lps_of old) new → AreGroups (lines_in new)) → AreGroups (own_lists plain lists)

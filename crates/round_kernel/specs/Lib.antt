@@ -6,3 +6,4 @@ pub mod Stops
 pub mod Left
 pub mod Handing
 pub mod Report
+pub mod Turns

@@ -1,38 +1,63 @@
 //! A window's firings: each group runs to the window's end.
 
-ghost use Rattle.std.specs.Prelude.{◌≡◌, ◌≢◌, ◌≤◌, ◌^◌, All, IfOk, OnOk, Some};
+ghost use Rattle.std.specs.Prelude.{◌≡◌, ◌≢◌, ◌≤◌, ◌^◌, All, IfOk, OnOk, Some, length};
 ghost use Rattle.lp_run.specs.Lp.{IsWellLp};
 ghost use Rattle.lp_run.specs.declared.stop.LpStop.TheVariants.{NoMemory as OutOfMemory};
 ghost use Rattle.row_work.specs.Made.{AreMade};
+ghost use Rattle.row_work.specs.Order.{AreNumbers};
 ghost use Rattle.round_kernel.specs.Stops.{earlier_stop, least_stop, with_stop};
 ghost use Rattle.round_kernel.specs.Window.{HasGone};
 
 use crate::groups::Group;
 use lp_run::LpStop;
+use outside::Gate;
 use pkt_face::Pkt;
+use row_work::work_all;
 use sim_base::{Key, NoMemory, NodeId, Time};
+use std::thread::Threads;
 
-/// Runs a group to the window's end.
-fn run_group<P: Pkt>(group: &mut Group<P>, end: Time)
+/// Lets a group enter a round, and runs it to the window's end.
+fn run_group<P: Pkt, G: Gate>(gate: &G, number: u32, round: u64, group: &mut Group<P>, end: Time)
     requires end { end.0 ≤ 10 ^ 12 }
     requires well { IsWellLp group.old.0 }
     ensures { HasGone end.0 group.old.0 group.new.0 group.new.1 }
 {
-    group.1 = match group.0.run_below(end) {
-        Ok(()) => None,
-        Err(stop) => Some(stop),
-    };
+    gate.enter(number, round);
+    group.run_below(end);
 }
 
-/// Runs the groups to the window's end, one after another.
-pub fn run_groups<P: Pkt>(groups: &mut Vec<Group<P>>, end: Time)
+/// Runs the groups to the window's end. Each is drawn by one of the workers, in an order that names each once. Where memory
+/// runs out, the groups are given up.
+pub fn run_groups<R: Threads + Sync, P: Pkt, G: Gate + Sync>(
+    rt: &R,
+    groups: &mut Vec<Group<P>>,
+    order: &[u32],
+    workers: u32,
+    gate: &G,
+    round: u64,
+    end: Time,
+) -> Result<(), NoMemory>
+    requires some_worker { 1 ≤ workers }
+    requires few_workers { workers ≤ 64 }
+    requires order { AreNumbers (length groups.old.items) order.now }
     requires end { end.0 ≤ 10 ^ 12 }
     requires well { All (λ group. IsWellLp group.0) groups.old.items }
-    ensures { AreMade (λ old new. HasGone end.0 old.0 new.0 new.1) groups.old.items groups.new.items }
+    ensures { OnOk result (AreMade (λ _ old new. HasGone end.0 old.0 new.0 new.1) groups.old.items groups.new.items) }
 {
-    for at in 0..groups.len() {
-        run_group(&mut groups[at], end);
-    }
+    let alloc = *groups.allocator();
+    let drawn = std::mem::replace(groups, Vec::new(alloc));
+    *groups = work_all(
+        rt,
+        alloc,
+        drawn,
+        order,
+        workers,
+        &|number: u32, group: &mut Group<P>|
+            requires { (end.0 ≤ 10 ^ 12) × IsWellLp group.now.0 }
+            ensures { HasGone end.0 group.entry.now.0 group.exit.now.0 group.exit.now.1 }
+        { run_group(gate, number, round, group, end) },
+    )?;
+    Ok(())
 }
 
 /// The earlier of a stop and the least so far.
@@ -73,7 +98,7 @@ pub fn first_stop<P: Pkt>(groups: &Vec<Group<P>>) -> Result<Option<(Key, NodeId)
 {
     let mut least = None;
     for group in groups {
-        least = with_group(least, group.1)?;
+        least = with_group(least, group.stop())?;
     }
     Ok(least)
 }

@@ -21,7 +21,7 @@ fn give<P: Pkt>(groups: &mut Vec<Group<P>>, group: u32, event: Event<P>) -> Resu
     ensures { OnOk result ((was : Gone) → slice_get groups.old.items group ≡ Some was →
         groups.new.items ≡ slice_set groups.old.items group (got_one (event_of (plain_event P.plain event)) was)) }
 {
-    groups[group as usize].0.receive(event)?;
+    groups[group as usize].receive(event)?;
     Ok(())
 }
 

@@ -32,8 +32,8 @@ fn take_from<P: Pkt>(group: &mut Group<P>, left: &mut Left<P>) -> Result<(), NoM
     ensures lines { OnOk result (plain_lists P.plain left.new.lines.items ≡ plain_lists P.plain left.old.lines.items ++ full group.old.0.lines) }
     ensures sends { OnOk result (plain_sends P.plain left.new.sends.items ≡ plain_sends P.plain left.old.sends.items ++ group.old.0.sends) }
 {
-    add_lines(&mut left.lines, group.0.take_lines())?;
-    let mut sends = group.0.take_sends();
+    add_lines(&mut left.lines, group.take_lines())?;
+    let mut sends = group.take_sends();
     left.sends.append(&mut sends)?;
     Ok(())
 }

@@ -2,6 +2,7 @@
 //! run writes.
 #![tactic(auto)]
 
+mod entering;
 mod firing;
 mod groups;
 mod handing;
@@ -14,3 +15,4 @@ mod window;
 
 pub use laws::{allowed_cuts_fit, rounds_of_groups};
 pub use rounds::run_rounds;
+pub use row_work::order_of;

@@ -35,7 +35,7 @@ fn count_number<P: Pkt>(group: &Group<P>, number: u32, counts: &mut Counts) -> R
     ensures drops { OnOk result ((node : PlainNode) → number < length group.now.0.part.places → slice_get group.now.0.part.nodes (place_of number group.now.0.part) ≡ Some node → counts.new.drops ≡ count_up node.drops counts.old.drops) }
     ensures apps { OnOk result ((node : PlainNode) → number < length group.now.0.part.places → slice_get group.now.0.part.nodes (place_of number group.now.0.part) ≡ Some node → counts.new.apps.items ≡ counts.old.apps.items ++ map app_count node.apps) }
 {
-    let Some(node) = group.0.part().node(NodeId(number)) else {
+    let Some(node) = group.lp().part().node(NodeId(number)) else {
         return Ok(());
     };
     count_node(node, counts)
@@ -64,13 +64,13 @@ fn fired_by_each<P: Pkt>(groups: &Vec<Group<P>>) -> Result<Vec<u64>, NoMemory>
 {
     let mut fired = Vec::with_capacity(*groups.allocator(), groups.len())?;
     for group in groups {
-        fired.push(group.0.fired())?;
+        fired.push(group.lp().fired())?;
     }
     Ok(fired)
 }
 
 /// The sum of counts.
-fn total(counts: &[u64]) -> u64
+pub fn total(counts: &[u64]) -> u64
     ensures { result ≡ fold (λ total count. count_up count total) 0 counts.now }
 {
     let mut total: u64 = 0;

@@ -12,6 +12,7 @@ ghost use Rattle.plain_kernel.specs.Stop.{PutsAll};
 ghost use Rattle.round_kernel.specs.Cut.{Fits};
 ghost use Rattle.round_kernel.specs.Report.{Answers, IsWantOrFault};
 
+use crate::entering::Turns;
 use crate::groups::split;
 use crate::handing::hand_over;
 use crate::report::report_of;
@@ -75,13 +76,17 @@ pub fn run_rounds<R: Threads + Sync, P: Pkt, G: Gate + Sync, L: LineOut<P>>(
     let Ok(mut groups) = split(world, cut) else {
         return Err(KernelStop::NoMemory);
     };
+    let Ok(mut turns) = Turns::first(*groups.allocator(), cut.groups) else {
+        return Err(KernelStop::NoMemory);
+    };
     let mut windows: u64 = 0;
     let mut last = Time(0);
     'windows: while let Some(from) = least_time(&groups, stop) {
         let few = windows <= last.0;
         prove!(few);
         let end = window_end(cut.lookahead, stop, from);
-        let Ok(round) = play(&mut groups, end) else {
+        let drawing = turns.workers(windows, workers);
+        let Ok(round) = play(rt, &mut groups, &turns.order, drawing, gate, windows, end) else {
             return Err(KernelStop::NoMemory);
         };
         let Round {
@@ -98,6 +103,7 @@ pub fn run_rounds<R: Threads + Sync, P: Pkt, G: Gate + Sync, L: LineOut<P>>(
         let Ok(()) = hand_over(&mut groups, group_of, sends) else {
             return Err(KernelStop::NoMemory);
         };
+        turns.follow(&groups);
         windows += 1;
         last = end;
     }

@@ -36,7 +36,7 @@ fn first_time<P: Pkt>(groups: &Vec<Group<P>>) -> Option<Time>
 {
     let mut least = None;
     for group in groups {
-        least = with_first(least, group.0.least());
+        least = with_first(least, group.lp().least());
     }
     least
 }

@@ -1,6 +1,6 @@
 //! A scenario's run in rounds, beside its plain run.
 
-ghost use Rattle.std.specs.Prelude.{◌≡◌, false};
+ghost use Rattle.std.specs.Prelude.{◌≡◌, ◌≤◌, false};
 ghost use Rattle.scenario_form.specs.Limits.{IsWithinLimits};
 
 use outside::OpenGate;
@@ -39,8 +39,15 @@ fn run_whole(alloc: Global, scenario: &Scenario) -> Result<Told, NoMemory>
     })
 }
 
-/// The run in rounds over the groups of the automatic cut.
-fn run_cut<R: Threads + Sync>(rt: &R, alloc: Global, scenario: &Scenario) -> Result<Told, NoMemory>
+/// The run in rounds over the groups of the automatic cut, with so many workers.
+fn run_cut<R: Threads + Sync>(
+    rt: &R,
+    alloc: Global,
+    scenario: &Scenario,
+    workers: u32,
+) -> Result<Told, NoMemory>
+    requires some_worker { 1 ≤ workers }
+    requires few_workers { workers ≤ 64 }
     requires limits { IsWithinLimits scenario.now }
 {
     let Ok(world) = World::<PlainPkt>::make(alloc, scenario) else {
@@ -49,7 +56,7 @@ fn run_cut<R: Threads + Sync>(rt: &R, alloc: Global, scenario: &Scenario) -> Res
     let shape = scenario.shape(alloc)?;
     let cut = auto(&shape)?;
     let mut lines = KeptLines::make(alloc);
-    let answer = run_rounds(rt, world, &cut, 1, &OpenGate, &mut lines);
+    let answer = run_rounds(rt, world, &cut, workers, &OpenGate, &mut lines);
     Ok(Told {
         answer,
         lines,
@@ -107,7 +114,33 @@ fn add_answer(
     Ok(())
 }
 
-/// Tells what a scenario's run in rounds reports, and whether its lines are those of the plain run.
+/// Tells what a scenario's run in rounds reports with so many workers, and whether its lines are those of the plain run.
+fn add_run<R: Threads + Sync>(
+    rt: &R,
+    alloc: Global,
+    scenario: &Scenario,
+    whole: &Told,
+    workers: u32,
+    text: &mut String,
+) -> Result<(), NoMemory>
+    requires some_worker { 1 ≤ workers }
+    requires few_workers { workers ≤ 64 }
+    requires limits { IsWithinLimits scenario.now }
+{
+    let cut = run_cut(rt, alloc, scenario, workers)?;
+    let same = are_same_lines(whole.lines.lines(), cut.lines.lines());
+    let lines = cut.lines.lines().len();
+    let groups = cut.groups;
+    let told = format!(in alloc;
+        "workers {workers}, groups {groups}: {lines} lines, those of the plain run: {same}"
+    )?;
+    text.push_str(told.as_str())?;
+    add_answer(alloc, &cut.answer, text)?;
+    text.push_str("\n")?;
+    Ok(())
+}
+
+/// Tells what a scenario's runs in rounds report, and whether their lines are those of the plain run.
 pub fn add_rounds<R: Threads + Sync>(
     rt: &R,
     alloc: Global,
@@ -117,15 +150,10 @@ pub fn add_rounds<R: Threads + Sync>(
     requires limits { IsWithinLimits scenario.now }
 {
     let whole = run_whole(alloc, scenario)?;
-    let cut = run_cut(rt, alloc, scenario)?;
-    let same = are_same_lines(whole.lines.lines(), cut.lines.lines());
-    let lines = cut.lines.lines().len();
-    let groups = cut.groups;
-    let told = format!(in alloc;
-        "in {groups} groups: {lines} lines, those of the plain run: {same}"
-    )?;
-    text.push_str(told.as_str())?;
-    add_answer(alloc, &cut.answer, text)?;
-    text.push_str("\n")?;
+    add_run(rt, alloc, scenario, &whole, 1, text)?;
+    add_run(rt, alloc, scenario, &whole, 2, text)?;
+    add_run(rt, alloc, scenario, &whole, 3, text)?;
+    add_run(rt, alloc, scenario, &whole, 8, text)?;
+    add_run(rt, alloc, scenario, &whole, 64, text)?;
     Ok(())
 }

@@ -4,7 +4,13 @@
 #[cfg(test)]
 mod adapters;
 #[cfg(test)]
+mod failing;
+#[cfg(test)]
+mod gates;
+#[cfg(test)]
 mod groups;
+#[cfg(test)]
+mod refusing;
 #[cfg(test)]
 mod runs;
 #[cfg(test)]

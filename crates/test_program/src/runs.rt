@@ -1,11 +1,43 @@
 //! Runs of the whole program over memory, and what is asserted of them.
 
-use outside::{MemSink, MemSource, MemStore, OpenGate};
-use pkt_face::PlainPkt;
+use outside::{Gate, MemSink, MemSource, MemStore, OpenGate};
+use pkt_face::{Pkt, PlainPkt};
 use sim_run::{Refusal, Status, WordCode, WordFault, run_program};
 use std::alloc::Global;
 use std::process::Abort;
 use std::thread::Threads;
+
+/// Runs the program with these words over packets of the type `P`, where the listed calls of the source and of the store fail
+/// and the workers pass a gate. Gives back the answer, the store and the sink.
+pub fn run_with<P: Pkt, R: Abort + Threads + Sync, G: Gate + Sync>(
+    rt: &R,
+    alloc: Global,
+    words: &[&str],
+    input: &[u8],
+    failing: (&[u32], &[u32]),
+    gate: &G,
+) -> (Status, MemStore, MemSink) {
+    let mut texts = Vec::new(alloc);
+    for word in words {
+        let text = String::from_str(alloc, word).expect(rt, "memory");
+        texts.push(text).expect(rt, "memory");
+    }
+    let (reads, writes) = failing;
+    let mut source = MemSource::make(alloc, input, reads).expect(rt, "memory");
+    let mut store = MemStore::make(alloc, writes).expect(rt, "memory");
+    let mut sink = MemSink::make(alloc, &[]).expect(rt, "memory");
+    assert!(rt; texts.len() <= 1000);
+    let status = run_program::<P, R, _, _, _, G>(
+        rt,
+        alloc,
+        texts.as_slice(),
+        &mut source,
+        &mut store,
+        &mut sink,
+        gate,
+    );
+    (status, store, sink)
+}
 
 /// Asserts what a run with these words answers, where the listed calls of the source and of the store
 /// fail, and gives back the store and the sink.
@@ -17,24 +49,8 @@ pub fn run(
     failing: (&[u32], &[u32]),
     expected: Status,
 ) -> (MemStore, MemSink) {
-    let mut texts = Vec::new(alloc);
-    for word in words {
-        let text = String::from_str(alloc, word).expect(rt, "memory");
-        texts.push(text).expect(rt, "memory");
-    }
-    let (reads, writes) = failing;
-    let mut source = MemSource::make(alloc, input, reads).expect(rt, "memory");
-    let mut store = MemStore::make(alloc, writes).expect(rt, "memory");
-    let mut sink = MemSink::make(alloc, &[]).expect(rt, "memory");
-    assert!(rt; texts.len() <= 1000);
-    let status = run_program::<PlainPkt, _, _, _, _, _>(
-        rt,
-        alloc,
-        texts.as_slice(),
-        &mut source,
-        &mut store,
-        &mut sink,
-        &OpenGate,
+    let (status, store, sink) = run_with::<PlainPkt, _, _>(
+        rt, alloc, words, input, failing, &OpenGate,
     );
     assert_eq!(rt; status, expected);
     (store, sink)

@@ -1,5 +1,6 @@
-use Rattle.std.proofs.Common.{◌∙◌, ◌≢◌, List, ap, fold, get_or, length, None, Some, arith}
+use Rattle.std.proofs.Common.{◌∙◌, ◌≢◌, List, Option, ap, fold, get_or, length, None, Some, subst, arith}
 use Rattle.std.proofs.lemmas.List.{take_all}
+use Rattle.lp_run.specs.declared.stop.LpStop.{LpStop}
 use Rattle.lp_run.specs.declared.stop.LpStop.TheVariants.{NoMemory}
 use Rattle.round_kernel.specs.Stops.{with_stop}
 use Rattle.round_kernel.specs.Window.{Gone}
@@ -13,9 +14,9 @@ loop-group-preserved g c =
     let is = c.group-item.is ∙ ap (λ (groups : List Gone). get_or groups c.loop-group.group-index c.group-item.result) c.deref-group-items.ensures.value in
     record {
       memory = facts-more c.args.groups.now.items c.loop-group.group-index c.group-item.result (omega arith) is (λ (group : Gone). group.1 ≢ Some NoMemory)
-          c.loop-group.invariant.memory c.in_ok-least.ensures.memory;
+          c.loop-group.invariant.memory (subst (λ (stop : Option LpStop). stop ≢ Some NoMemory) c.stop.ensures c.in_ok-least.ensures.memory);
       least = fold-more c.args.groups.now.items c.loop-group.group-index c.group-item.result (omega arith) is (λ least group. with_stop least group.1) None
-          c.loop-group.least c.in_ok-least.least c.loop-group.invariant.least c.in_ok-least.ensures.least;
+          c.loop-group.least c.in_ok-least.least c.loop-group.invariant.least (c.in_ok-least.ensures.least ∙ ap (with_stop c.loop-group.least) c.stop.ensures);
     }
 
 pub returns-clause-memory : goal.returns-clause-memory

@@ -1,4 +1,4 @@
-use Rattle.std.proofs.Common.{◌∙◌, List, ap, reverse, subst, sym, arith}
+use Rattle.std.proofs.Common.{◌∙◌, ◌++◌, ◌∷◌, [], List, ap, reverse, subst, sym, arith}
 use Rattle.std.proofs.lemmas.List.{take_at}
 use Rattle.lp_run.proofs.Seen.{none-left}
 use Rattle.round_kernel.specs.Window.{Gone}
@@ -18,7 +18,7 @@ make-requires-after_bounds g c κs within =
 
 pub parts-preserved : goal.parts-preserved
 parts-preserved g c =
-    subst (λ (groups : List Gone). Making g.P.Pkt.plain c.args.parts.items c.pop.new.self.items groups) (sym c.in_ok-push.ensures.items)
+    subst (λ (groups : List Gone). Making g.P.Pkt.plain c.args.parts.items c.pop.new.self.items groups) (ap (λ (group : Gone). c.parts.groups.items ++ group ∷ []) (sym c.in_ok-make.ensures) ∙ sym c.in_ok-push.ensures.items)
     (making-more g.P.Pkt.plain c.args.parts.items c.parts.parts.items c.pop.new.self.items c.parts.groups.items (c.in-Some.part, c.in-Some.first)
     c.in_ok-lp.lp c.parts.invariant c.in-Some.ensures.items c.in_ok-lp.ensures)
 

@@ -1,5 +1,6 @@
 use Rattle.std.proofs.Common.{◌∙◌, ◌++◌, List, [], ◌∷◌, ap, get_or, length, map, arith}
 use Rattle.std.proofs.lemmas.List.{take_all}
+use Rattle.lp_run.specs.Lp.{PlainLp}
 use Rattle.round_kernel.specs.Window.{Gone}
 use Rattle.round_kernel.proofs.LoopLaws.{map-more}
 use Rattle.round_kernel.proofs.report.fired_by_each.Goals as goal
@@ -11,7 +12,7 @@ loop-group-preserved g c =
     map-more c.args.groups.now.items c.loop-group.group-index c.group-item.result (omega arith)
     (c.group-item.is ∙ ap (λ (groups : List Gone). get_or groups c.loop-group.group-index c.group-item.result) c.deref-group-items.ensures.value)
     (λ group. group.0.fired) c.loop-group.fired.items c.push.new.self.items c.loop-group.invariant
-    (c.in_ok-push.ensures.items ∙ ap (λ n. c.loop-group.fired.items ++ n ∷ []) c.fired.ensures)
+    (c.in_ok-push.ensures.items ∙ ap (λ n. c.loop-group.fired.items ++ n ∷ []) (c.fired.ensures ∙ ap (λ (lp : PlainLp). lp.fired) c.lp.ensures))
 
 pub returns : goal.returns
 returns g c = c.loop-group.invariant

@@ -16,6 +16,9 @@ use Rattle.round_kernel.proofs.GroupLists.{length-lps}
 use Rattle.round_kernel.proofs.EndLaws.{ended, ended-lines}
 use Rattle.round_kernel.proofs.RunLaws.{can-merge, round-times, window-of}
 use Rattle.round_kernel.proofs.TimeLaws.{none-begins}
+use Rattle.round_kernel.proofs.TurnLaws.{round-count}
+use Rattle.round_kernel.specs.Turns.{AreTurns}
+use Rattle.row_work.specs.Order.{AreNumbers}
 use Rattle.round_kernel.proofs.rounds.run_rounds.Goals as goal
 
 pub windows-init : goal.windows-init
@@ -28,6 +31,7 @@ windows-init g c = record {
   making = refl;
   going = c.requires.going;
   faults = omega arith;
+  turns = c.in-Ok-first.ensures;
   few = omega arith;
   within = omega arith;
 }
@@ -38,6 +42,13 @@ play-requires-clause-end g c κs within =
     let window = window-of c.args.world c.args.cut.now c.requires.fits c.windows.groups.items written.0 c.windows.windows c.windows.last.0 written.1 c.stop-stop.result
     c.in-Some.from c.window_end-end.result (sym c.in-Some.is ∙ c.least_time.ensures) c.stop-stop.ensures c.window_end-end.ensures in
     let end = window.within in let stop = c.requires.stop in omega arith
+
+pub play-requires-clause-order : goal.play-requires-clause-order
+play-requires-clause-order g c κs within =
+    let written = c.windows.invariant.written in
+    let turns = c.windows.invariant.turns in
+    subst (λ (order : List ℕ). AreNumbers (length c.windows.groups.items) order) (sym c.deref.ensures.value)
+    (subst (λ n. AreNumbers n c.windows.turns.order.items) (turns.estimates ∙ sym written.1.count ∙ length-lps c.windows.groups.items) turns.order.numbers)
 
 pub play-requires-clause-well : goal.play-requires-clause-well
 play-requires-clause-well g c κs within =
@@ -167,6 +178,14 @@ returns-in_default-hand_over-clause-cause g c =
     cause-memory (g.L.LineOut.faults c.args.lines.now) (g.L.LineOut.faults c.put_lines.new.lines)
     (let a = c.windows.invariant.faults in let b = c.in_default-put_lines.ensures.cause.later in omega arith)
 
+pub follow-requires-clause-turns : goal.follow-requires-clause-turns
+follow-requires-clause-turns g c κs within =
+    let written = c.windows.invariant.written in
+    subst (λ n. AreTurns n c.windows.turns)
+    (sym (round-count _ c.window_end-end.result.0 c.windows.groups.items c.play.new.groups.items c.hand_over.new.groups.items _ _ _ _ c.in-Ok-play.ensures
+    c.in-Ok-hand_over.ensures ∙ sym (length-lps c.windows.groups.items) ∙ written.1.count))
+    c.windows.invariant.turns
+
 pub overflow_add-windows : goal.overflow_add-windows
 overflow_add-windows g c =
     let few = c.windows.invariant.few in let last = c.windows.invariant.within in let stop = c.requires.stop in
@@ -205,6 +224,10 @@ windows-preserved g c =
       making = c.in_default-put_lines.ensures.making ∙ c.windows.invariant.making;
       going = c.in_default-put_lines.ensures.going;
       faults = omega arith;
+      turns = subst (λ n. AreTurns n c.follow.new.self)
+          (round-count _ c.window_end-end.result.0 c.windows.groups.items c.play.new.groups.items c.hand_over.new.groups.items _ _ _ _ c.in-Ok-play.ensures
+          c.in-Ok-hand_over.ensures ∙ sym (length-lps c.windows.groups.items) ∙ written.1.count)
+          c.follow.ensures;
       few = omega arith;
       within = omega arith;
     }

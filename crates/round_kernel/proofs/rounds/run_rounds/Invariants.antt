@@ -5,6 +5,7 @@ use Rattle.node_step.specs.Firing.{Text}
 use Rattle.node_rules.specs.Firings.{trace_line}
 use Rattle.round_kernel.specs.Groups.{Between}
 use Rattle.round_kernel.specs.Left.{lps_of}
+use Rattle.round_kernel.specs.Turns.{AreTurns}
 use Rattle.round_kernel.proofs.rounds.run_rounds.Given as goal
 
 -- these firings are written, in as many windows, and the groups stand between two rounds
@@ -15,6 +16,7 @@ invariant-windows g l = record {
   making : g.L.LineOut.made_with l.lines ≡ g.L.LineOut.made_with l.fn.lines;
   going : g.L.LineOut.has_failed l.lines ≡ false;
   faults : g.L.LineOut.faults l.fn.lines ≤ g.L.LineOut.faults l.lines;
+  turns : AreTurns l.cut.groups l.turns;
   few : l.windows ≤ l.last.0;
   within : l.last.0 ≤ l.stop.0;
 }
