@@ -60,8 +60,8 @@ pub record IsEnd (opener : Bool) (app : ℕ) (pair : SocketPair) (phase : Phase)
 abbrev pub handshake : Ask → Time → Seg Packet → List Happening
 handshake ask later syn = There (asked ask) ∷ Here (Segment later syn) ∷ []
 
--- The opener's node sends one segment, and when that comes to the sink's node both ends stand. This is a history, and from there
--- on what is delivered is what is written.
+-- The opener's node sends one segment, and when that comes to the sink's node both ends stand. This is a history, and the two
+-- inputs make the ends of a transfer.
 pub record BeginsTransfer (ask : Ask) (later : Time) (listener : ℕ) (there : PlainConns) (n : Numbers) (here : PlainConns) (m : Numbers) : Type 0 where
   pub syn : Seg Packet
   pub sent : (happens ask.pair (nodes_before there n here m) (There (asked ask))).opener.life.sent ≡ syn ∷ []
