@@ -78,6 +78,7 @@ from-range verb.Demo place given is = demo given.n is.n
     demo : (o : Option ℕ) → IfSome o (IsUpTo 999) → IfOk (demo_of_given place given o) IsInRange
     demo None within = tt
     demo (Some n) within = (within, workers-range given.workers is.workers)
+from-range verb.Show place given is = tt
 
 -- a word, and the words behind it
 next-range : (place : ℕ) (r : Result Given WordCode) (next : Given → Result Command WordFault)

@@ -4,7 +4,7 @@ use Rattle.std.specs.List.{after_first, before_first, list_any}
 use Rattle.std.specs.Str.{all_ascii_digits, bytes_eq}
 use Rattle.std.specs.Str.Parse.{digits_value}
 use Rattle.command_words.specs.declared.command.Command.{Command}
-use Rattle.command_words.specs.declared.command.Command.TheVariants.{Run, Check, Demo}
+use Rattle.command_words.specs.declared.command.Command.TheVariants.{Run, Check, Demo, Show}
 use Rattle.command_words.specs.declared.command.Settings.{Settings}
 use Rattle.command_words.specs.declared.command.Partition.{Partition}
 use Rattle.command_words.specs.declared.command.Partition.TheVariants.{One, File, Auto}
@@ -56,6 +56,7 @@ abbrev pub key_of : Verb → List ℕ → Option Key
 key_of verb.Run text = run_key text
 key_of verb.Check text = None
 key_of verb.Demo text = if bytes_eq text (codes "n") then Some key.N else run_key text
+key_of verb.Show text = None
 
 -- nothing is set yet
 abbrev pub nothing : Given
@@ -109,6 +110,7 @@ abbrev pub command_from : Verb → ℕ → Given → Result Command WordFault
 command_from verb.Run place given = Ok (Run (settings_of given))
 command_from verb.Check place given = Ok Check
 command_from verb.Demo place given = demo_of_given place given given.n
+command_from verb.Show place given = Ok Show
 
 -- a word's fault, or what comes after the word
 abbrev pub after_word : ℕ → Result Given WordCode → (Given → Result Command WordFault) → Result Command WordFault
@@ -125,7 +127,7 @@ with_settings verb place given (word ∷ words) =
 abbrev pub verb_named : List ℕ → Option Verb
 verb_named word =
     if bytes_eq word (codes "run") then Some verb.Run else if bytes_eq word (codes "check") then Some verb.Check
-    else if bytes_eq word (codes "demo") then Some verb.Demo else None
+    else if bytes_eq word (codes "demo") then Some verb.Demo else if bytes_eq word (codes "show") then Some verb.Show else None
 
 -- the first word, where it names a command, and the words behind it
 abbrev pub with_words : Option Verb → List (List ℕ) → Result Command WordFault
@@ -152,3 +154,4 @@ abbrev pub IsInRange : Command → Type 0
 IsInRange (Run settings) = HaveWorkers settings
 IsInRange Check = Unit {0}
 IsInRange (Demo n settings) = IsUpTo 999 n × HaveWorkers settings
+IsInRange Show = Unit {0}

@@ -35,6 +35,8 @@ pub enum Command {
     Check,
     /// Simulates the demo's scenario of this number, from 1 to 999.
     Demo { n: u32, settings: Settings },
+    /// Reads a capture, and writes its listing.
+    Show,
 }
 
 /// The first word of a command line.
@@ -43,6 +45,7 @@ pub enum Verb {
     Run,
     Check,
     Demo,
+    Show,
 }
 
 /// What is wrong with a word.
@@ -103,6 +106,8 @@ fn verb_named(word: &String) -> Option<Verb>
         Some(Verb::Check)
     } else if word.as_str() == "demo" {
         Some(Verb::Demo)
+    } else if word.as_str() == "show" {
+        Some(Verb::Show)
     } else {
         None
     }
@@ -147,6 +152,7 @@ fn command_from(verb: Verb, place: u32, given: Given) -> Result<Command, WordFau
                 settings: settings_of(given),
             }),
         },
+        Verb::Show => Ok(Command::Show),
     }
 }
 

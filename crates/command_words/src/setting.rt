@@ -74,6 +74,7 @@ fn key_of(verb: Verb, text: &str) -> Option<Key>
                 run_key(text)
             }
         }
+        Verb::Show => None,
     }
 }
 

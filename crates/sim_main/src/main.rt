@@ -1,6 +1,6 @@
 //! The program: it reads a scenario from standard input. `run` runs it, and writes its captures and its
 //! text trace into the working folder and its summary to standard output; `check` writes its sizes.
-//! `demo` runs a scenario of its own.
+//! `demo` runs a scenario of its own. `show` reads a capture, and writes its listing.
 //! Where something stops it, it writes one line that says what, and ends with a status other than 0.
 #![tactic(auto)]
 
@@ -82,6 +82,7 @@ fn write_fault_line(rt: &HostRuntime, status: Status) -> io::Result<()> {
             time: Time(time),
         } => println!(rt; "limit node {node} time {time}"),
         Status::NoMemory => println!(rt; "no memory"),
+        Status::Capture { offset } => println!(rt; "capture {offset}"),
     }
 }
 
@@ -158,6 +159,7 @@ fn exit_code(status: Status) -> u8 {
         Status::WriteFault => 4,
         Status::Limit { .. } => 5,
         Status::NoMemory => 6,
+        Status::Capture { .. } => 7,
     }
 }
 

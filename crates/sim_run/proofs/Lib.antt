@@ -13,3 +13,4 @@ pub mod PlaceLaws
 pub mod RunFiles
 pub mod CreateLaws
 pub mod PartitionLaws
+pub mod ShowLaws

@@ -13,3 +13,5 @@ pub mod Growth
 pub mod Stop
 pub mod Saving
 pub mod Plain
+pub mod Outcome
+pub mod Show

@@ -10,6 +10,7 @@ mod pieces;
 mod places;
 mod program;
 mod report;
+mod show;
 mod simulate;
 mod sizes;
 mod status;

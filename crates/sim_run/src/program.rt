@@ -12,10 +12,11 @@ ghost use Rattle.scenario_gen.specs.Demo.{demo_of};
 ghost use Rattle.command_words.specs.Command.{HaveWorkers, IsInRange, IsUpTo, command_of};
 ghost use Rattle.command_words.specs.declared.command.WordFault.{WordFault};
 ghost use Rattle.sim_run.specs.Output.{HasFiles, HasFilePrefixes, HasGot, HasGotPrefix};
-ghost use Rattle.sim_run.specs.Plain.{plain, answered, finished, scenario_for, IsAnswer, BeforeFiles, WhereRead, WhereUnread};
+ghost use Rattle.sim_run.specs.Plain.{plain, answered, commanded, finished, IsAnswer, BeforeFiles, WhereRead, WhereUnread};
 ghost use Rattle.sim_run.specs.Stop.{IsWhole};
 
 use crate::input::{InputStop, read_all};
+use crate::show::show;
 use crate::simulate::simulate;
 use crate::sizes::write_sizes;
 use crate::status::Status;
@@ -88,15 +89,15 @@ fn run_command<P: Pkt, R: Threads + Sync, S: Source, F: TraceStore, O: Sink, G: 
 ) -> Status
     requires range { IsInRange command }
     requires names { (rest : List ℕ) → F.takes store.old (codes "trace" ++ rest) }
-    ensures answer { IfSome (S.left source.old) (λ input. IsAnswer (answered command (scenario_for command input)).status result) }
+    ensures answer { IfSome (S.left source.old) (λ input. IsAnswer (commanded command input).status result) }
     ensures no_words { (fault : WordFault) → result ≢ Status.Words fault }
     ensures untouched { BeforeFiles result ((store.new ≡ store.old) × (out.new ≡ out.old)) }
     ensures input { WhereRead command (result ≡ Status.Done → IfSome (S.left source.old) (λ _. S.left source.new ≡ Some [])) }
     ensures unread { WhereUnread command (source.new ≡ source.old) }
-    ensures files { IfSome (S.left source.old) (λ input. result ≡ (answered command (scenario_for command input)).status → HasFiles (F.files store.old) (F.files store.new) (answered command (scenario_for command input)).files) }
-    ensures text { IfSome (S.left source.old) (λ input. result ≡ (answered command (scenario_for command input)).status → HasGot (O.got out.old) (O.got out.new) (answered command (scenario_for command input)).text) }
-    ensures file_prefixes { IfSome (S.left source.old) (λ input. HasFilePrefixes (F.files store.old) (F.files store.new) (answered command (scenario_for command input)).files) }
-    ensures text_prefix { IfSome (S.left source.old) (λ input. HasGotPrefix (O.got out.old) (O.got out.new) (answered command (scenario_for command input)).text) }
+    ensures files { IfSome (S.left source.old) (λ input. result ≡ (commanded command input).status → HasFiles (F.files store.old) (F.files store.new) (commanded command input).files) }
+    ensures text { IfSome (S.left source.old) (λ input. result ≡ (commanded command input).status → HasGot (O.got out.old) (O.got out.new) (commanded command input).text) }
+    ensures file_prefixes { IfSome (S.left source.old) (λ input. HasFilePrefixes (F.files store.old) (F.files store.new) (commanded command input).files) }
+    ensures text_prefix { IfSome (S.left source.old) (λ input. HasGotPrefix (O.got out.old) (O.got out.new) (commanded command input).text) }
     ensures read_fault { result ≡ Status.ReadFault → Rose (S.faults source.old) (S.faults source.new) }
     ensures write_fault { result ≡ Status.WriteFault → Rose (F.faults store.old) (F.faults store.new) ⊎ Rose (O.faults out.old) (O.faults out.new) }
     ensures later { (S.faults source.old ≤ S.faults source.new) × (F.faults store.old ≤ F.faults store.new) × (O.faults out.old ≤ O.faults out.new) }
@@ -112,6 +113,7 @@ fn run_command<P: Pkt, R: Threads + Sync, S: Source, F: TraceStore, O: Sink, G: 
         Command::Demo { n, settings } => {
             run_demo::<P, R, F, O, G>(rt, alloc, n, settings, store, out, gate)
         }
+        Command::Show => show(alloc, source, out),
     }
 }
 
@@ -254,5 +256,6 @@ fn carry_out<P: Pkt, R: Threads + Sync, F: TraceStore, O: Sink, G: Gate + Sync>(
         Command::Demo { n: _, settings } => {
             simulate::<P, R, F, O, G>(rt, alloc, settings, scenario, store, out, gate)
         }
+        Command::Show => Ok(()),
     }
 }

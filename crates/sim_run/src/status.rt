@@ -15,4 +15,6 @@ pub enum Status {
     /// At this time the node would have scheduled more events than it may.
     Limit { node: NodeId, time: Time },
     NoMemory,
+    /// The bytes are no capture: they leave the format here.
+    Capture { offset: u64 },
 }
