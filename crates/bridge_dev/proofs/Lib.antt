@@ -1,0 +1,5 @@
+pub mod EntryLaws
+pub mod PortLaws
+pub mod CopyLaws
+pub mod LastLaws
+pub mod OutLaws

@@ -1,0 +1,4 @@
+pub mod Table
+pub mod Seen
+pub mod Step
+pub mod Law
