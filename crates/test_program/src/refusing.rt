@@ -19,50 +19,52 @@ const PUSHING: u32 = 1;
 /// a copy.
 const COPYING: u32 = 2;
 
-/// A packet that copies everything, of which one call answers `NoMemory`.
+/// A packet of which one call answers `NoMemory`.
 #[derive(Drop)]
-struct RefusingPkt<const CALL: u32> {
-    packet: PlainPkt,
+struct RefusingPkt<P: Pkt, const CALL: u32> {
+    packet: P,
 }
 
-impl<const CALL: u32> Pkt for RefusingPkt<CALL> {
-    type Maker = ();
+impl<P: Pkt, const CALL: u32> Pkt for RefusingPkt<P, CALL> {
+    type Maker = P::Maker;
 
-    ghost plain = { λ p. PlainPkt.Pkt.plain p.packet };
+    ghost plain = { λ p. P.plain p.packet };
 
-    ghost SharesStore = { λ p q. PlainPkt.Pkt.SharesStore p.packet q.packet };
+    ghost SharesStore = { λ p q. P.SharesStore p.packet q.packet };
 
-    ghost valid = { λ p. PlainPkt.Pkt.valid p.packet };
+    ghost valid = { λ p. P.valid p.packet };
 
-    fn maker(_alloc: Global) -> () {}
+    fn maker(alloc: Global) -> P::Maker {
+        P::maker(alloc)
+    }
 
     fn zeros(
         alloc: Global,
-        maker: &mut (),
+        maker: &mut P::Maker,
         uid: Uid,
         n: u32,
-    ) -> Result<RefusingPkt<CALL>, NoMemory> {
+    ) -> Result<RefusingPkt<P, CALL>, NoMemory> {
         if CALL == MAKING {
             return Err(NoMemory);
         }
-        let packet = PlainPkt::zeros(alloc, maker, uid, n)?;
+        let packet = P::zeros(alloc, maker, uid, n)?;
         Ok(RefusingPkt { packet })
     }
 
     fn from_bytes(
         alloc: Global,
-        maker: &mut (),
+        maker: &mut P::Maker,
         uid: Uid,
         bytes: &[u8],
-    ) -> Result<RefusingPkt<CALL>, NoMemory> {
+    ) -> Result<RefusingPkt<P, CALL>, NoMemory> {
         if CALL == MAKING {
             return Err(NoMemory);
         }
-        let packet = PlainPkt::from_bytes(alloc, maker, uid, bytes)?;
+        let packet = P::from_bytes(alloc, maker, uid, bytes)?;
         Ok(RefusingPkt { packet })
     }
 
-    fn copy(&mut self, maker: &mut ()) -> Result<RefusingPkt<CALL>, NoMemory> {
+    fn copy(&mut self, maker: &mut P::Maker) -> Result<RefusingPkt<P, CALL>, NoMemory> {
         if CALL == COPYING {
             return Err(NoMemory);
         }
@@ -70,14 +72,24 @@ impl<const CALL: u32> Pkt for RefusingPkt<CALL> {
         Ok(RefusingPkt { packet })
     }
 
-    fn push_front(&mut self, maker: &mut (), kind: Kind, bytes: &[u8]) -> Result<(), NoMemory> {
+    fn push_front(
+        &mut self,
+        maker: &mut P::Maker,
+        kind: Kind,
+        bytes: &[u8],
+    ) -> Result<(), NoMemory> {
         if CALL == PUSHING {
             return Err(NoMemory);
         }
         self.packet.push_front(maker, kind, bytes)
     }
 
-    fn push_back(&mut self, maker: &mut (), kind: Kind, bytes: &[u8]) -> Result<(), NoMemory> {
+    fn push_back(
+        &mut self,
+        maker: &mut P::Maker,
+        kind: Kind,
+        bytes: &[u8],
+    ) -> Result<(), NoMemory> {
         self.packet.push_back(maker, kind, bytes)
     }
 
@@ -85,7 +97,7 @@ impl<const CALL: u32> Pkt for RefusingPkt<CALL> {
         self.packet.cut(from, to);
     }
 
-    fn join(&mut self, maker: &mut (), other: &RefusingPkt<CALL>) -> Result<(), NoMemory> {
+    fn join(&mut self, maker: &mut P::Maker, other: &RefusingPkt<P, CALL>) -> Result<(), NoMemory> {
         self.packet.join(maker, &other.packet)
     }
 
@@ -155,7 +167,7 @@ fn assert_no_memory<P: Pkt>(rt: &(impl Abort + Threads + Sync), alloc: Global) {
 
 #[test]
 fn a_run_over_packets_that_refuse_ends_for_want_of_memory(rt: HostRuntime) {
-    assert_no_memory::<RefusingPkt<MAKING>>(&rt, rt.alloc());
-    assert_no_memory::<RefusingPkt<PUSHING>>(&rt, rt.alloc());
-    assert_no_memory::<RefusingPkt<COPYING>>(&rt, rt.alloc());
+    assert_no_memory::<RefusingPkt<PlainPkt, MAKING>>(&rt, rt.alloc());
+    assert_no_memory::<RefusingPkt<PlainPkt, PUSHING>>(&rt, rt.alloc());
+    assert_no_memory::<RefusingPkt<PlainPkt, COPYING>>(&rt, rt.alloc());
 }
